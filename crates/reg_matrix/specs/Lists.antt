@@ -1,0 +1,85 @@
+-- Lists, by tests that compute. Assumes nothing.
+use Prim.Native.Nat.{ℕ, zero, suc, _-_, _/_, _%_, _^_}
+use Prim.Native.String.{String, [] as []ˢ, _∷_ as _∷ˢ_}
+use Prim.Native.Char.{code}
+use mathlib.Core.List.{List, [], _∷_, _++_}
+use mathlib.Core.Option.{Option, none, some}
+use mathlib.Core.Bool.{Bool, true, false, _&&_, _||_}
+use lib.Dec.{eqb}
+use lib.ListN.{length, replicate}
+
+module _ {ℓ} {A : Type ℓ} where
+  abbrev pub keep : Bool → A → List A → List A
+  keep true x xs = x ∷ xs
+  keep false x xs = xs
+
+  -- the elements that pass the test, in order
+  unfoldable pub filter : (A → Bool) → List A → List A
+  filter p [] = []
+  filter p (x ∷ xs) = keep (p x) x (filter p xs)
+
+  unfoldable pub any : (A → Bool) → List A → Bool
+  any p [] = false
+  any p (x ∷ xs) = p x || any p xs
+
+  unfoldable pub all : (A → Bool) → List A → Bool
+  all p [] = true
+  all p (x ∷ xs) = p x && all p xs
+
+  abbrev pub orElse : Bool → A → Option A → Option A
+  orElse true x r = some x
+  orElse false x r = r
+
+  -- the first element that passes the test
+  unfoldable pub first : (A → Bool) → List A → Option A
+  first p [] = none
+  first p (x ∷ xs) = orElse (p x) x (first p xs)
+
+  abbrev pub isNil : List A → Bool
+  isNil [] = true
+  isNil (x ∷ xs) = false
+
+  abbrev pub isSome : Option A → Bool
+  isSome none = false
+  isSome (some x) = true
+
+  -- some two places of the list, the earlier first, pass the test
+  unfoldable pub anyPair : (A → A → Bool) → List A → Bool
+  anyPair p [] = false
+  anyPair p (x ∷ xs) = any (p x) xs || anyPair p xs
+
+  -- the list, and d after it up to n places
+  unfoldable pub padded : ℕ → A → List A → List A
+  padded n d xs = xs ++ replicate (n - length xs) d
+
+module _ {ℓ κ} {A : Type ℓ} {B : Type κ} where
+  unfoldable pub concatMap : (A → List B) → List A → List B
+  concatMap f [] = []
+  concatMap f (x ∷ xs) = f x ++ concatMap f xs
+
+  unfoldable pub foldl : (B → A → B) → B → List A → B
+  foldl f b [] = b
+  foldl f b (x ∷ xs) = foldl f (f b x) xs
+
+-- i, i + 1, .., n of them
+unfoldable pub count : ℕ → ℕ → List ℕ
+count i zero = []
+count i (suc n) = i ∷ count (suc i) n
+
+abbrev pub bit : ℕ → ℕ → Bool
+bit i m = eqb (m / 2 ^ i % 2) 1
+
+unfoldable pub has : ℕ → List ℕ → Bool
+has n [] = false
+has n (x ∷ xs) = eqb n x || has n xs
+
+unfoldable pub ascii : String → List ℕ
+ascii []ˢ = []
+ascii (c ∷ˢ s) = code c ∷ ascii s
+
+-- two lists of numbers are the same
+unfoldable pub same : List ℕ → List ℕ → Bool
+same [] [] = true
+same [] (y ∷ ys) = false
+same (x ∷ xs) [] = false
+same (x ∷ xs) (y ∷ ys) = eqb x y && same xs ys
