@@ -1,0 +1,12 @@
+pub mod State
+pub mod Order
+pub mod Queue
+pub mod Evict
+pub mod Dequeue
+pub mod Run
+pub mod Layout
+pub mod Calls
+pub mod Holding
+pub mod Demand
+pub mod Sheet
+pub mod Script

@@ -1,0 +1,178 @@
+-- Scripts of calls and what they print (docs/SCRIPT.md): the form in which direct calls are compared with the Rust. Every call is lent full
+-- buffers. Assumes nothing.
+use Prim.Native.Nat.{ℕ, zero, suc, _+_, _<_}
+use Prim.Native.String.{String}
+use mathlib.Core.List.{List, [], _∷_, _++_}
+use mathlib.Core.Option.{Option, none, some}
+use mathlib.Core.Bool.{Bool, true, false, cond}
+use lib.Dec.{ltb, leb}
+use lib.Ieee.{binary32, ofBits, toBits}
+use lib.ListN.{length, take, drop, getD}
+use Rattle.reg_matrix.specs.Lists.{ascii, concatMap, foldl, count}
+use Rattle.reg_matrix.specs.Lines.{number, sp, line, refusedLine, tableLines, reportLine}
+use Rattle.reg_matrix.specs.Questions.{Checked, notChecked, checked, checkLimits, askCheck, Spared, notAsked, isSpare, tableLimits, askSpare}
+use Rattle.reg_matrix.specs.declared.ValueSegment.{ValueSegment}
+use Rattle.job.specs.Model.{Job}
+use Rattle.job.specs.Parser.{Parsed, refused, parsed, Parser, andThen, _>>=_, _>>_, done, each, refuse, little}
+use Rattle.job.specs.Load.{Loaded, notLoaded, loaded}
+use Rattle.allocator.specs.State.{State, Stage, Assignment, Assigned, Unassigned, Dead, recordOf, freshState}
+use Rattle.allocator.specs.Queue.{encode}
+use Rattle.allocator.specs.Layout.{stageLimits}
+use Rattle.allocator.specs.Calls.{load, Call, placing, evicting, running, Answer, refused as refusedBy, placed, evicted, ended, answerOf, after}
+use Rattle.allocator.specs.Sheet.{endLine}
+
+-- a call that may change the stage; a check of segments on a register, in full or short form; whether a unit is spare over a range
+pub data ScriptCall : Type 0 where
+  calls : Call → ScriptCall
+  checks : Bool → ℕ → List ValueSegment → ScriptCall
+  asksSpare : ℕ → ValueSegment → ScriptCall
+
+-- ---- reading: a call is a byte and its arguments
+
+abbrev pub points : Parser ℕ → Parser ValueSegment
+points value = do
+  a ← little 4
+  b ← little 4
+  x ← value
+  done (record { from = a; to = b; value = x })
+
+abbrev pub placingCall : Parser ScriptCall
+placingCall = do
+  v ← little 2
+  r ← little 1
+  w ← little 4
+  done (calls (placing stageLimits v r (ofBits binary32 w)))
+
+abbrev pub evictingCall : Parser ScriptCall
+evictingCall = do
+  v ← little 2
+  done (calls (evicting stageLimits v))
+
+abbrev pub runningCall : Parser ScriptCall
+runningCall = do
+  b ← little 4
+  done (calls (running stageLimits b))
+
+abbrev pub checkingCall : Bool → Parser ScriptCall
+checkingCall full = do
+  r ← little 1
+  n ← little 1
+  ss ← each (λ before. points (little 2)) n []
+  done (checks full r ss)
+
+abbrev pub spareCall : Parser ScriptCall
+spareCall = do
+  u ← little 1
+  p ← points (done 0)
+  done (asksSpare u p)
+
+-- any refusal here means a bad script
+abbrev pub callOfKind : ℕ → Parser ScriptCall
+callOfKind 1 = placingCall
+callOfKind 2 = evictingCall
+callOfKind 3 = runningCall
+callOfKind 4 = checkingCall false
+callOfKind 5 = checkingCall true
+callOfKind 6 = spareCall
+callOfKind k = λ s. refused 0
+
+unfoldable pub scriptCall : Parser ScriptCall
+scriptCall = do
+  k ← little 1
+  callOfKind k
+
+-- ---- the state, printed
+
+abbrev pub flagText : Bool → List ℕ
+flagText true = ascii " 1"
+flagText false = ascii " 0"
+
+abbrev pub recordText : Assignment → List ℕ
+recordText (Assigned f r w) = ascii " assigned" ++ flagText f ++ sp (number r) ++ sp (number (toBits binary32 w))
+recordText (Unassigned f) = ascii " unassigned" ++ flagText f
+recordText Dead = ascii " dead"
+
+abbrev pub recordLine : State → ℕ → List ℕ
+recordLine s v = line (ascii "s " ++ number v ++ recordText (recordOf s v))
+
+abbrev pub putBefore : Bool → ℕ → ℕ → List ℕ → List ℕ → List ℕ
+putBefore true k x xs r = k ∷ x ∷ xs
+putBefore false k x xs r = x ∷ r
+
+-- greatest first
+unfoldable pub insertKey : List ℕ → ℕ → List ℕ
+insertKey [] k = k ∷ []
+insertKey (x ∷ xs) k = putBefore (ltb x k) k x xs (insertKey xs k)
+
+abbrev pub keyOf : Job → ℕ → Option Stage → List ℕ
+keyOf j v none = []
+keyOf j v (some q) = encode j v q ∷ []
+
+unfoldable pub queueKeys : Job → State → List ℕ
+queueKeys j s = foldl insertKey [] (concatMap (λ v. keyOf j v (getD (s .queued) v none)) (count 0 512))
+
+abbrev pub lastText : ℕ → Option ℕ → List ℕ
+lastText t none = []
+lastText t (some r) = sp (number t ++ ascii ":" ++ number r)
+
+unfoldable pub stateLines : Job → State → List ℕ
+stateLines j s =
+    concatMap (recordLine s) (count 0 (length (j .virtRegs)))
+    ++ line (ascii "q" ++ concatMap (λ k. sp (number k)) (queueKeys j s))
+    ++ line (ascii "l" ++ concatMap (λ t. lastText t (getD (s .last) t none)) (count 0 512))
+    ++ tableLines (s .table)
+
+-- ---- what a call prints, and the state after it
+
+abbrev pub answerLine : Answer → List ℕ
+answerLine (refusedBy n) = refusedLine n
+answerLine (placed r) = line (ascii "ok")
+answerLine (evicted r) = line (ascii "ok")
+answerLine (ended w n) = endLine w n
+
+abbrev pub checkedLines : Checked → List ℕ
+checkedLines (notChecked n) = refusedLine n
+checkedLines (checked rs) = line (ascii "check") ++ concatMap reportLine rs
+
+abbrev pub sparedLine : Spared → List ℕ
+sparedLine (notAsked n) = refusedLine n
+sparedLine (isSpare true) = line (ascii "spare")
+sparedLine (isSpare false) = line (ascii "busy")
+
+abbrev pub stateAfter : Job → State → ScriptCall → State
+stateAfter j s (calls c) = after j s c
+stateAfter j s (checks full r ss) = s
+stateAfter j s (asksSpare u p) = s
+
+unfoldable pub saidBy : Job → State → ScriptCall → List ℕ
+saidBy j s (calls c) = answerLine (answerOf j s c) ++ stateLines j (after j s c)
+saidBy j s (checks full r ss) = checkedLines (askCheck (checkLimits (length ss)) (j .regs) (j .fixed) (s .table) full r ss)
+saidBy j s (asksSpare u p) = sparedLine (askSpare tableLimits (s .table) u p)
+
+unfoldable pub saidByAll : Job → State → List ScriptCall → List ℕ
+saidByAll j s [] = []
+saidByAll j s (c ∷ cs) = saidBy j s c ++ saidByAll j (stateAfter j s c) cs
+
+-- ---- the transcript
+
+-- of the calls that these bytes hold; each takes at least one byte of n
+unfoldable pub transcriptFrom : ℕ → Job → State → List ℕ → List ℕ
+transcriptFrom n j s [] = []
+transcriptFrom zero j s (b ∷ bytes) = []
+transcriptFrom (suc n) j s (b ∷ bytes) =
+    elim (scriptCall (b ∷ bytes)) [
+      | refused k ↦ line (ascii "bad script")
+      | parsed c left ↦ saidBy j s c ++ transcriptFrom n j (stateAfter j s c) left
+    ]
+
+abbrev pub onLoaded : List ℕ → Loaded → List ℕ
+onLoaded bytes (notLoaded n) = refusedLine n
+onLoaded bytes (loaded j) = transcriptFrom (length bytes) j (freshState j) bytes
+
+-- a job's length, the job, and the calls
+abbrev pub afterLength : Parsed ℕ → List ℕ
+afterLength (refused k) = line (ascii "bad script")
+afterLength (parsed n bytes) = cond (ltb (length bytes) n) (line (ascii "bad script")) (onLoaded (drop n bytes) (load stageLimits (take n bytes)))
+
+unfoldable pub transcript : List ℕ → List ℕ
+transcript bytes = afterLength (little 4 bytes)

@@ -1,0 +1,4 @@
+pub mod Model
+pub mod Parser
+pub mod Load
+pub mod Layout

@@ -1,0 +1,47 @@
+-- What a job holds (document 01, "The job"). Assumes nothing.
+use Prim.Native.Nat.{ℕ}
+use mathlib.Core.List.{List, []}
+use mathlib.Core.Option.{Option}
+use lib.Ieee.{Float, binary32, ofBits}
+use lib.ListN.{getD}
+use Rattle.reg_matrix.specs.declared.ValueSegment.{ValueSegment}
+use Rattle.reg_matrix.specs.declared.Entry.{Entry}
+use Rattle.job.specs.declared.Hint.{Hint}
+
+pub record VirtReg : Type 0 where
+  pub class : ℕ
+  pub valueSet : ℕ
+  pub spillWeight : Float
+  pub size : ℕ
+  pub hints : List Hint
+  pub segments : List ValueSegment
+
+-- `regs` has each register's map of units, `classes` the register numbers of each class in order, `fixed` the fixed reservations in the job's
+-- order, as entries
+pub record Job : Type 0 where
+  pub regs : List ℕ
+  pub classes : List (List ℕ)
+  pub fixed : List Entry
+  pub virtRegs : List VirtReg
+  pub probe : Option ValueSegment
+  pub budget : ℕ
+
+abbrev pub zeroWeight : Float
+zeroWeight = ofBits binary32 0
+
+abbrev pub noVirtReg : VirtReg
+noVirtReg = record { class = 0; valueSet = 0; spillWeight = zeroWeight; size = 0; hints = []; segments = [] }
+
+unfoldable pub virtReg : Job → ℕ → VirtReg
+virtReg j v = getD (j .virtRegs) v noVirtReg
+
+abbrev pub segmentsOf : Job → ℕ → List ValueSegment
+segmentsOf j v = virtReg j v .segments
+
+-- the units of the register r, as a map
+abbrev pub unitMap : Job → ℕ → ℕ
+unitMap j r = getD (j .regs) r 0
+
+-- the registers of v's class, in order
+abbrev pub classOf : Job → ℕ → List ℕ
+classOf j v = getD (j .classes) (virtReg j v .class) []
