@@ -24,7 +24,7 @@ isInfinite (inf n) = true
 isInfinite (fin n m e) = false
 
 abbrev pub evicteesOf : Job → State → ℕ → CandidateReg → List ℕ
-evicteesOf j s v c = evictees (checkOf j s v (c .reg))
+evicteesOf j s v c = evictees j (checkOf j s v (c .reg))
 
 -- "failing, infinite spill weight ends the run, otherwise the number returns at stage Split". The flag turns on "where the spill maximum evicted
 -- is not below the placed number's"

@@ -4,6 +4,7 @@ use mathlib.Core.List.{List, [], _∷_}
 use mathlib.Core.Option.{Option, none, some}
 use mathlib.Core.Bool.{Bool, true, false, not, _&&_, _||_, cond}
 use lib.Ieee.{Float, binary32, ofBits, add, lt, eq}
+use lib.ListN.{length}
 use Rattle.reg_matrix.specs.Lists.{keep, filter, any, foldl, concatMap, count, has}
 use Rattle.reg_matrix.specs.declared.Interference.{Interference}
 use Rattle.reg_matrix.specs.declared.InterferenceKind.{InterferenceKind}
@@ -36,8 +37,8 @@ firsts seen [] = []
 firsts seen (v ∷ vs) = keep (not (has v seen)) v (firsts (v ∷ seen) vs)
 
 -- the holders as a set: ascending, each once
-unfoldable pub evictees : List Interference → List ℕ
-evictees rs = filter (λ v. has v (holders rs)) (count 0 512)
+unfoldable pub evictees : Job → List Interference → List ℕ
+evictees j rs = filter (λ v. has v (holders rs)) (count 0 (length (j .virtRegs)))
 
 -- ---- costs
 

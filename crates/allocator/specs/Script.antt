@@ -1,14 +1,13 @@
 -- Scripts of calls and what they print (docs/SCRIPT.md): the form in which direct calls are compared with the Rust. Every call is lent full
 -- buffers. Assumes nothing.
-use Prim.Native.Nat.{ℕ, zero, suc, _+_, _<_}
-use Prim.Native.String.{String}
+use Prim.Native.Nat.{ℕ, zero, suc}
 use mathlib.Core.List.{List, [], _∷_, _++_}
 use mathlib.Core.Option.{Option, none, some}
 use mathlib.Core.Bool.{Bool, true, false, cond}
-use lib.Dec.{ltb, leb}
+use lib.Dec.{ltb, eqb}
 use lib.Ieee.{binary32, ofBits, toBits}
-use lib.ListN.{length, take, drop, getD}
-use Rattle.reg_matrix.specs.Lists.{ascii, concatMap, foldl, count}
+use lib.ListN.{length, take, drop}
+use Rattle.reg_matrix.specs.Lists.{ascii, concatMap, count}
 use Rattle.reg_matrix.specs.Lines.{number, sp, line, refusedLine, tableLines, reportLine}
 use Rattle.reg_matrix.specs.Questions.{Checked, notChecked, checked, checkLimits, askCheck, Spared, notAsked, isSpare, tableLimits, askSpare}
 use Rattle.reg_matrix.specs.declared.ValueSegment.{ValueSegment}
@@ -68,13 +67,13 @@ spareCall = do
 
 -- any refusal here means a bad script
 abbrev pub callOfKind : ℕ → Parser ScriptCall
-callOfKind 1 = placingCall
-callOfKind 2 = evictingCall
-callOfKind 3 = runningCall
-callOfKind 4 = checkingCall false
-callOfKind 5 = checkingCall true
-callOfKind 6 = spareCall
-callOfKind k = λ s. refused 0
+callOfKind k =
+    cond (eqb k 1) placingCall
+    (cond (eqb k 2) evictingCall
+    (cond (eqb k 3) runningCall
+    (cond (eqb k 4) (checkingCall false)
+    (cond (eqb k 5) (checkingCall true)
+    (cond (eqb k 6) spareCall (λ s. refused 0))))))
 
 unfoldable pub scriptCall : Parser ScriptCall
 scriptCall = do
@@ -104,22 +103,29 @@ unfoldable pub insertKey : List ℕ → ℕ → List ℕ
 insertKey [] k = k ∷ []
 insertKey (x ∷ xs) k = putBefore (ltb x k) k x xs (insertKey xs k)
 
-abbrev pub keyOf : Job → ℕ → Option Stage → List ℕ
-keyOf j v none = []
-keyOf j v (some q) = encode j v q ∷ []
+abbrev pub keyBefore : Job → ℕ → Option Stage → List ℕ → List ℕ
+keyBefore j v none ks = ks
+keyBefore j v (some q) ks = insertKey ks (encode j v q)
 
-unfoldable pub queueKeys : Job → State → List ℕ
-queueKeys j s = foldl insertKey [] (concatMap (λ v. keyOf j v (getD (s .queued) v none)) (count 0 512))
+-- of the numbers from v on, who stand so in the queue
+unfoldable pub queueKeys : Job → ℕ → List (Option Stage) → List ℕ
+queueKeys j v [] = []
+queueKeys j v (q ∷ qs) = keyBefore j v q (queueKeys j (suc v) qs)
 
-abbrev pub lastText : ℕ → Option ℕ → List ℕ
-lastText t none = []
-lastText t (some r) = sp (number t ++ ascii ":" ++ number r)
+abbrev pub lastText : ℕ → Option ℕ → List ℕ → List ℕ
+lastText t none more = more
+lastText t (some r) more = sp (number t ++ ascii ":" ++ number r) ++ more
+
+-- of the sets from t on
+unfoldable pub lastTexts : ℕ → List (Option ℕ) → List ℕ
+lastTexts t [] = []
+lastTexts t (r ∷ rs) = lastText t r (lastTexts (suc t) rs)
 
 unfoldable pub stateLines : Job → State → List ℕ
 stateLines j s =
     concatMap (recordLine s) (count 0 (length (j .virtRegs)))
-    ++ line (ascii "q" ++ concatMap (λ k. sp (number k)) (queueKeys j s))
-    ++ line (ascii "l" ++ concatMap (λ t. lastText t (getD (s .last) t none)) (count 0 512))
+    ++ line (ascii "q" ++ concatMap (λ k. sp (number k)) (queueKeys j 0 (s .queued)))
+    ++ line (ascii "l" ++ lastTexts 0 (s .last))
     ++ tableLines (s .table)
 
 -- ---- what a call prints, and the state after it
@@ -155,10 +161,10 @@ saidByAll j s (c ∷ cs) = saidBy j s c ++ saidByAll j (stateAfter j s c) cs
 
 -- ---- the transcript
 
--- of the calls that these bytes hold; each takes at least one byte of n
+-- of the calls that these bytes hold: at most n, as each takes a byte
 unfoldable pub transcriptFrom : ℕ → Job → State → List ℕ → List ℕ
-transcriptFrom n j s [] = []
-transcriptFrom zero j s (b ∷ bytes) = []
+transcriptFrom zero j s bytes = []
+transcriptFrom (suc n) j s [] = []
 transcriptFrom (suc n) j s (b ∷ bytes) =
     elim (scriptCall (b ∷ bytes)) [
       | refused k ↦ line (ascii "bad script")

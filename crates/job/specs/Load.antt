@@ -5,7 +5,7 @@ use mathlib.Core.List.{List, [], _∷_}
 use mathlib.Core.Option.{Option, none, some}
 use mathlib.Core.Bool.{Bool, true, false, not, _&&_, _||_, cond, Bool·beq}
 use lib.Dec.{ltb, leb, eqb}
-use lib.Count.{ones}
+use lib.Count.{onesIn}
 use lib.Ieee.{binary32, ofBits, nanBits}
 use lib.ListN.{length, getD}
 use Rattle.reg_matrix.specs.Lists.{foldl, any, anyPair, same, bit, isNil}
@@ -51,7 +51,7 @@ badHintBits b = badSpillBits b || eqb b 0x7f80_0000
 unfoldable pub register : Parser ℕ
 register = do
   m ← little 8
-  refuse 4 (ltb 4 (ones m))
+  refuse 4 (ltb 4 (onesIn 64 m))
   refuse 5 (eqb m 0)
   done m
 
