@@ -21,7 +21,7 @@ use Rattle.reg_matrix.proofs.Tests.{both, both-in, or-right, passes-or-
 use Rattle.reg_matrix.proofs.Members.{_∈_, filter-out, filter-in, any-in, any-out, not-nothing, append-nothing, concat-nothing, concat-none, onUnit-out, onUnit-in}
 use Rattle.reg_matrix.proofs.Cells.{Disjoint, Inside, replaced→, overlaps→, overlaps-or-not, Cell, entryFor, Laid, reserved, cell, IsTable, Free}
 use Rattle.reg_matrix.proofs.Chains.{Sound}
-use Rattle.reg_matrix.proofs.Whole.{cellOf, cells, Joins, Rising, joins-units, assign-law}
+use Rattle.reg_matrix.proofs.Whole.{cellOf, cells, AllFree, Joins, Rising, joins-units, assign-law}
 
 -- ---- what segments and entries say of one another
 
@@ -217,15 +217,7 @@ module _ (fixed : List Entry) (cs : List Cell) (t : Table) (it : IsTable fixed c
   -- ---- the check
 
   -- a check that reports nothing: every cell is free
-  pub clear-cells :
-      (full : Bool) (v m : ℕ) (ss : List ValueSegment)
-      → Segments fixed ss
-      → check full fixed t m ss ≡ []
-      → (u : ℕ)
-      → u ∈ unitsOf m
-      → (s : ValueSegment)
-      → s ∈ ss
-      → Free fixed cs (cellOf v u s)
+  pub clear-cells : (full : Bool) (v m : ℕ) (ss : List ValueSegment) → Segments fixed ss → check full fixed t m ss ≡ [] → AllFree fixed cs v m ss
   unfolding check
   clear-cells full v m ss g z u k s l =
       own-free v u s (g .nonempty s l) (g .uncut s l)
@@ -234,10 +226,7 @@ module _ (fixed : List Entry) (cs : List Cell) (t : Table) (it : IsTable fixed c
       s l)
 
   -- every cell is free: the check reports nothing
-  pub free-clear :
-      (full : Bool) (v m : ℕ) (ss : List ValueSegment)
-      → ((u : ℕ) → u ∈ unitsOf m → (s : ValueSegment) → s ∈ ss → Free fixed cs (cellOf v u s))
-      → check full fixed t m ss ≡ []
+  pub free-clear : (full : Bool) (v m : ℕ) (ss : List ValueSegment) → AllFree fixed cs v m ss → check full fixed t m ss ≡ []
   unfolding check
   free-clear full v m ss h =
       concat-none (λ (u : ℕ). checkOn full (fixedUses fixed u) (onUnit u t) 0 [] ss) (unitsOf m)

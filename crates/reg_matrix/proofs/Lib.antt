@@ -8,3 +8,7 @@ pub mod Whole
 pub mod Clear
 pub mod Fresh
 pub mod Room
+pub mod Apart
+pub mod Capacity
+pub mod Spare
+pub mod Laws

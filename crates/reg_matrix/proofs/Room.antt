@@ -23,7 +23,7 @@ use Rattle.reg_matrix.proofs.Tests.{both-in, or-left, or-right, passes-
 use Rattle.reg_matrix.proofs.Members.{_∈_, filter-in, any-in, any-out, concat-in, onUnit-in, fixedUses-in}
 use Rattle.reg_matrix.proofs.Cells.{Disjoint, Inside, replaced→, overlaps→, →overlaps, overlaps-or-not, Cell, entryFor, Laid, reserved, cell, IsTable, Free, Among}
 use Rattle.reg_matrix.proofs.Chains.{from-first-in, Sound, not-held, uses-nonempty}
-use Rattle.reg_matrix.proofs.Whole.{cellOf, cells, Joins, Rising, joins-units}
+use Rattle.reg_matrix.proofs.Whole.{cells, AllFree, Joins, Rising, joins-units}
 use Rattle.reg_matrix.proofs.Clear.{Segments}
 
 -- ---- what is reported: us are the fixed uses of a unit, es its entries, and e one of them
@@ -267,7 +267,7 @@ module _
           open-use u k s l e n (onUnit-in u t e f q) o
 
   -- with the reported holders away, the cells of the register are free
-  pub room : (v u : ℕ) → u ∈ unitsOf m → (s : ValueSegment) → s ∈ ss → Free fixed left (cellOf v u s)
+  pub room : (v : ℕ) → AllFree fixed left v m ss
   room v u k s l =
       record {
         nonempty = g .nonempty s l;

@@ -1,6 +1,6 @@
 -- Sorted tables: the order of entries, what `insert` and `insertAll` put into a table, and that a sorted table is decided by its entries.
 -- Assumes nothing.
-use Prim.Native.Nat.{_<_}
+use Prim.Native.Nat.{ℕ, _<_}
 use native.Mathlib.Omega.{arith}
 use mathlib.Core.Path.{_≡_, refl, sym, ap₂, _∙_, subst}
 use mathlib.Core.Logic.{_⊎_, inl, inr, ⊎-swap}
@@ -8,7 +8,7 @@ use mathlib.Core.List.{List, [], _∷_, List·Memᴰ·head, List·Memᴰ·tail, 
 use mathlib.Core.Bool.{Bool, true, false, not, _&&_, _||_}
 use lib.Dec.{T, ltb, eqb, ltb→lt, lt→ltb, eqb→eq}
 use Rattle.reg_matrix.specs.Lists.{keep, filter, foldl}
-use Rattle.reg_matrix.specs.Table.{Table, before, putBefore, insert, insertAll}
+use Rattle.reg_matrix.specs.Table.{Table, before, putBefore, insert, insertAll, onUnit}
 use Rattle.reg_matrix.specs.declared.Entry.{Entry}
 use Rattle.reg_matrix.proofs.Tests.{both, both-in, either, or-left, or-right, eqb-in, less-equal-greater}
 use Rattle.reg_matrix.proofs.Members.{_∈_, filter-out}
@@ -151,6 +151,10 @@ sorted-filter p (x ∷ xs) h = go (p x) (sorted-filter p xs (h .1))
     go : (b : Bool) → Sorted (filter p xs) → Sorted (keep b x (filter p xs))
     go true ih = (below-in x (filter p xs) (λ e m. below-out x (h .0) (filter-out p xs m .1)), ih)
     go false ih = ih
+
+pub onUnit-sorted : (u : ℕ) (t : Table) → Sorted t → Sorted (onUnit u t)
+unfolding onUnit
+onUnit-sorted u t h = sorted-filter (λ (e : Entry). eqb (e .unit) u) t h
 
 -- ---- insert
 

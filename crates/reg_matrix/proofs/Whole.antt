@@ -3,7 +3,7 @@
 use Prim.Native.Nat.{ℕ, _≤_}
 use mathlib.Core.Path.{_≡_, refl, sym, ap, _∙_, subst}
 use mathlib.Core.Logic.{_⊎_, inl, inr, ⊎-swap}
-use mathlib.Core.List.{List, [], _∷_, _++_, map, List·Memᴰ·head, List·Memᴰ·tail, List·Memᴰ·cases-cons, Memᴰ·append-left, Memᴰ·append-right, List·Memᴰ·append-cases, Memᴰ·map, Memᴰ·of-map}
+use mathlib.Core.List.{List, [], _∷_, _++_, map, List·Memᴰ·head, List·Memᴰ·tail, List·Memᴰ·cases-cons, Memᴰ·append-left, Memᴰ·append-right, List·Memᴰ·append-cases, Memᴰ·map, Memᴰ·of-map, append-nil}
 use Rattle.reg_matrix.specs.Lists.{foldl, concatMap}
 use Rattle.reg_matrix.specs.Table.{Table, unitsOf}
 use Rattle.reg_matrix.specs.Assign.{assignSegment, evictSegment, assign, evict}
@@ -40,6 +40,10 @@ cellsOn-out v us ss c m =
 pub cellsOn-in : (v : ℕ) (us : List ℕ) (ss : List ValueSegment) (u : ℕ) (s : ValueSegment) → u ∈ us → s ∈ ss → cellOf v u s ∈ cellsOn v us ss
 unfolding cellsOn
 cellsOn-in v us ss u s m n = concat-in (λ (u : ℕ). map (cellOf v u) ss) m (Memᴰ·map (cellOf v u) n)
+
+-- each of them is free beside the cells cs
+abbrev pub AllFree : List Entry → List Cell → ℕ → ℕ → List ValueSegment → Type 0
+AllFree fixed cs v m ss = (u : ℕ) → u ∈ unitsOf m → (s : ValueSegment) → s ∈ ss → Free fixed cs (cellOf v u s)
 
 -- ---- a walk over units and segments is a walk over cells
 
@@ -116,7 +120,7 @@ module _ (fixed : List Entry) (cs : List Cell) (v : ℕ) where
       (λ c m q. d .0 (subst (λ (n : ℕ). n ∈ us) q (cellsOn-out v us ss c m .1)))
       (joins us ss (d .1) r (λ x m. f x (List·Memᴰ·tail m)))
 
-  pub joins-units : (m : ℕ) (ss : List ValueSegment) → Rising ss → ((u : ℕ) → u ∈ unitsOf m → (s : ValueSegment) → s ∈ ss → Free fixed cs (cellOf v u s)) → Joins fixed cs (cells v m ss)
+  pub joins-units : (m : ℕ) (ss : List ValueSegment) → Rising ss → AllFree fixed cs v m ss → Joins fixed cs (cells v m ss)
   joins-units m ss r f = joins (unitsOf m) ss (units-distinct m) r f
 
 -- one more cell beside
@@ -137,22 +141,46 @@ one-more fixed cs (l ∷ ls) k h j =
     alone : (d : Cell) → d ∈ ls ++ (k ∷ cs) → d .u ≡ l .u → Disjoint (d .s) (l .s)
     alone d m e = go d (List·Memᴰ·append-cases ls m) e
 
--- ks ++ (k ∷ cs) and k ∷ (ks ++ cs) have the same cells
-to-front : (ks cs : List Cell) (k : Cell) → Among (ks ++ (k ∷ cs)) (k ∷ (ks ++ cs))
-to-front ks cs k d m = go (List·Memᴰ·append-cases ks m)
-  where
-    go : (d ∈ ks) ⊎ (d ∈ k ∷ cs) → d ∈ k ∷ (ks ++ cs)
-    go (inl n) = List·Memᴰ·tail (Memᴰ·append-left cs n)
-    go (inr (List·Memᴰ·head q)) = List·Memᴰ·head q
-    go (inr (List·Memᴰ·tail n)) = List·Memᴰ·tail (Memᴰ·append-right ks n)
+-- cells that go together, in two parts
+pub joins-append : (fixed : List Entry) (ks cs : List Cell) → Joins fixed cs ks → Joins fixed [] cs → Joins fixed [] (ks ++ cs)
+joins-append fixed [] cs j i = i
+joins-append fixed (k ∷ ks) cs j i = (subst (λ (l : List Cell). Free fixed l k) (sym (append-nil (ks ++ cs))) (j .0), joins-append fixed ks cs (j .1) i)
 
-from-front : (ks cs : List Cell) (k : Cell) → Among (k ∷ (ks ++ cs)) (ks ++ (k ∷ cs))
-from-front ks cs k d (List·Memᴰ·head q) = Memᴰ·append-right ks (List·Memᴰ·head q)
-from-front ks cs k d (List·Memᴰ·tail m) = go (List·Memᴰ·append-cases ks m)
+pub joins-split : (fixed : List Entry) (ks cs : List Cell) → Joins fixed [] (ks ++ cs) → Joins fixed cs ks × Joins fixed [] cs
+joins-split fixed [] cs j = (tt, j)
+joins-split fixed (k ∷ ks) cs j =
+    let r = joins-split fixed ks cs (j .1) in
+    ((subst (λ (l : List Cell). Free fixed l k) (append-nil (ks ++ cs)) (j .0), r .0), r .1)
+
+-- some of them taken out of the middle
+pub joins-middle : (fixed : List Entry) (xs ks ys : List Cell) → Joins fixed [] (xs ++ (ks ++ ys)) → Joins fixed (xs ++ ys) ks × Joins fixed [] (xs ++ ys)
+joins-middle fixed [] ks ys j = joins-split fixed ks ys j
+joins-middle fixed (x ∷ xs) ks ys j = more (joins-middle fixed xs ks ys (j .1))
   where
-    go : (d ∈ ks) ⊎ (d ∈ cs) → d ∈ ks ++ (k ∷ cs)
-    go (inl n) = Memᴰ·append-left (k ∷ cs) n
-    go (inr n) = Memᴰ·append-right ks (List·Memᴰ·tail n)
+    still : (d : Cell) → (d ∈ xs) ⊎ (d ∈ ys) → d ∈ (xs ++ (ks ++ ys)) ++ []
+    still d (inl m) = Memᴰ·append-left [] (Memᴰ·append-left (ks ++ ys) m)
+    still d (inr m) = Memᴰ·append-left [] (Memᴰ·append-right xs (Memᴰ·append-right ks m))
+
+    fewer : Among ((xs ++ ys) ++ []) ((xs ++ (ks ++ ys)) ++ [])
+    fewer d m = still d (List·Memᴰ·append-cases xs (subst (λ (l : List Cell). d ∈ l) (append-nil (xs ++ ys)) m))
+
+    more : Joins fixed (xs ++ ys) ks × Joins fixed [] (xs ++ ys) → Joins fixed (x ∷ (xs ++ ys)) ks × Joins fixed [] (x ∷ (xs ++ ys))
+    more r = (
+      one-more fixed (xs ++ ys) ks x (λ l m q. j .0 .alone l (Memᴰ·append-left [] (Memᴰ·append-right xs (Memᴰ·append-left ys m))) q) (r .0),
+      (free-among fixed ((xs ++ ys) ++ []) ((xs ++ (ks ++ ys)) ++ []) x fewer (j .0), r .1),
+    )
+
+-- the middle part moved to the front
+pub middle-first : (xs ys zs : List Cell) → Among (xs ++ (ys ++ zs)) (ys ++ (xs ++ zs))
+middle-first xs ys zs c m = go (List·Memᴰ·append-cases xs m)
+  where
+    inner : (c ∈ ys) ⊎ (c ∈ zs) → c ∈ ys ++ (xs ++ zs)
+    inner (inl n) = Memᴰ·append-left (xs ++ zs) n
+    inner (inr n) = Memᴰ·append-right ys (Memᴰ·append-right xs n)
+
+    go : (c ∈ xs) ⊎ (c ∈ ys ++ zs) → c ∈ ys ++ (xs ++ zs)
+    go (inl n) = Memᴰ·append-right ys (Memᴰ·append-left zs n)
+    go (inr n) = inner (List·Memᴰ·append-cases ys n)
 
 -- ---- placing and evicting
 
@@ -161,7 +189,7 @@ module _ (fixed : List Entry) (sd : Sound fixed) where
   unfolding foldl onCell
   assign-cells [] cs t it j = it
   assign-cells (k ∷ ks) cs t it j =
-      is-among fixed (ks ++ (k ∷ cs)) (k ∷ (ks ++ cs)) _ (to-front ks cs k) (from-front ks cs k)
+      is-among fixed (ks ++ (k ∷ cs)) (k ∷ (ks ++ cs)) _ (middle-first ks (k ∷ []) cs) (middle-first (k ∷ []) ks cs)
       (assign-cells ks (k ∷ cs) (assignSegment fixed (k .v) (k .u) t (k .s))
       (assign-cell fixed cs t k (sd .nonempty) it (free-among fixed cs (ks ++ cs) k (λ d m. Memᴰ·append-right ks m) (j .0)))
       (one-more fixed cs ks k (λ l m q. j .0 .alone l (Memᴰ·append-left cs m) q) (j .1)))
