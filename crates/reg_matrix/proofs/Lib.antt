@@ -1,0 +1,14 @@
+pub mod Tests
+pub mod Members
+pub mod Sorted
+pub mod Cells
+pub mod Chains
+pub mod Evicting
+pub mod Whole
+pub mod Clear
+pub mod Fresh
+pub mod Room
+pub mod Apart
+pub mod Capacity
+pub mod Spare
+pub mod Laws
