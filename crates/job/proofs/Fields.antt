@@ -3,9 +3,9 @@ use Prim.Native.Nat.{ℕ, _<_, _≤_, _+_, _%_, _^_}
 use native.Mathlib.Omega.{arith}
 use mathlib.Core.Path.{_≡_, refl, sym, subst}
 use mathlib.Core.List.{List, [], _∷_, _++_}
-use mathlib.Core.Option.{Option, none, some}
-use mathlib.Core.Bool.{Bool, true, false, not, _&&_, _||_, cond, Bool·beq}
-use lib.Dec.{T, ltb, leb, eqb, nltb→le, nleb→lt, eqb→eq, T-not, not-T}
+use mathlib.Core.Option.{none, some}
+use mathlib.Core.Bool.{Bool, true, false, not, _&&_, _||_, Bool·beq}
+use lib.Dec.{T, ltb, leb, eqb, nltb→le, nleb→lt, eqb→eq, T-not}
 use lib.Count.{onesIn}
 use lib.Ieee.{nanBits}
 use lib.ListN.{length}
@@ -18,7 +18,6 @@ use Rattle.reg_matrix.specs.declared.Entry.{Entry}
 use Rattle.reg_matrix.specs.declared.Reservation.{Reservation}
 use Rattle.reg_matrix.specs.declared.Reservation.the-variants.{FixedUse, FixedDef}
 use Rattle.reg_matrix.proofs.Tests.{eqb-in}
-use Rattle.reg_matrix.proofs.Members.{_∈_}
 use Rattle.job.specs.declared.Hint.{Hint}
 use Rattle.job.specs.declared.FixedFields.{FixedFields}
 use Rattle.job.specs.declared.VirtRegFields.{VirtRegFields}
@@ -199,22 +198,23 @@ got-hint regs s b =
 
 -- with `earlier` hints before them
 record GoodHints (regs earlier : ℕ) (hs : List Hint) : Type 0 where
-  each : Each (GoodHint regs) hs
+  table : Table (GoodHint regs) 64 hs
   total : earlier + length hs ≤ 1024
 
-got-hintCount : (earlier : ℕ) {s : List ℕ} → Left s → Got (λ k. earlier + k ≤ 1024) (hintCount earlier s)
+got-hintCount : (earlier : ℕ) {s : List ℕ} → Left s → Got (λ k. (k ≤ 64) × (earlier + k ≤ 1024)) (hintCount earlier s)
 unfolding hintCount
 got-hintCount earlier b =
     got-then (got-little 1 b) λ k s _ b.
     got-then (got-refuse 4 (ltb 64 k || ltb 1024 (earlier + k)) b) λ _ s p b.
     got-then (got-refuse 5 (eqb k 0) b) λ _ s _ b.
-    got-done (nltb→le 1024 (earlier + k) (neither (ltb 64 k) (ltb 1024 (earlier + k)) p .1)) b
+    let q = neither (ltb 64 k) (ltb 1024 (earlier + k)) p in
+    got-done (nltb→le 64 k (q .0), nltb→le 1024 (earlier + k) (q .1)) b
 
 got-hints : (regs earlier : ℕ) {s : List ℕ} → Left s → Got (GoodHints regs earlier) (hints regs earlier s)
 unfolding hints
 got-hints regs earlier b =
     got-then (got-hintCount earlier b) λ k s h b.
-    got-so (got-table (GoodHint regs) (hint regs) k k (omega arith) (got-hint regs) b) λ hs t. record { each = t .each; total = omega (arith, t .few) }
+    got-so (got-table (GoodHint regs) (hint regs) k k (omega arith) (got-hint regs) b) λ hs t. record { table = record { each = t .each; few = omega arith }; total = omega arith }
 
 -- ---- segments
 
@@ -314,7 +314,7 @@ pub record GoodVirtReg (regs classes : ℕ) (v : VirtReg) : Type 0 where
   pub valueSet : v .valueSet < 512
   pub spillWeight : Plain (v .spillWeight)
   pub size : v .size < 2 ^ 32
-  pub hints : Each (GoodHint regs) (v .hints)
+  pub hints : Table (GoodHint regs) 64 (v .hints)
   pub segments : GoodSegments (v .segments)
   pub some : 0 < length (v .segments)
 
@@ -326,10 +326,10 @@ got-virtReg : (regs classes n h g : ℕ) {s : List ℕ} → n < 512 → h ≤ 10
 unfolding virtRegAt
 got-virtReg regs classes n h g hn hh b =
     got-then (got-virtRegFields classes n hn b) λ f s k b.
-    got-then (got-bit (bit 4 (f .map)) [] (hints regs h) (λ t. record { each = each-none (GoodHint regs); total = omega arith }) (got-hints regs h b) b) λ hs s p b.
+    got-then (got-bit (bit 4 (f .map)) [] (hints regs h) (λ t. record { table = table-none (GoodHint regs) 64; total = omega arith }) (got-hints regs h b) b) λ hs s p b.
     got-then (got-segments g b) λ ss s q b.
     got-done (
-      record { class = k .class; valueSet = k .valueSet; spillWeight = k .spillWeight; size = k .size; hints = p .each; segments = q .good; some = q .some },
+      record { class = k .class; valueSet = k .valueSet; spillWeight = k .spillWeight; size = k .size; hints = p .table; segments = q .good; some = q .some },
       p .total,
       q .total,
     )

@@ -2,13 +2,13 @@
 use Prim.Native.Nat.{ℕ, zero, suc, _<_, _≤_, _+_}
 use native.Mathlib.Omega.{arith}
 use native.Mathlib.Nat.{add-zero}
-use mathlib.Core.Path.{_≡_, refl, sym, ap, _∙_, subst}
+use mathlib.Core.Path.{_≡_, refl, sym, _∙_, subst}
 use mathlib.Core.Logic.{_⊎_, inl, inr}
 use mathlib.Core.List.{List, [], _∷_, _++_, List·Memᴰ·head, List·Memᴰ·tail, List·Memᴰ·append-cases, List·Memᴰ·eq-of-singleton}
 use mathlib.Core.Bool.{Bool, true, false, cond}
 use lib.Dec.{T}
 use lib.ListN.{length, getD, length-append}
-use Rattle.reg_matrix.specs.Lists.{keep, filter, any, anyPair, concatMap, foldl}
+use Rattle.reg_matrix.specs.Lists.{filter, any, anyPair, concatMap, foldl}
 use Rattle.reg_matrix.proofs.Tests.{or-left, or-right}
 use Rattle.reg_matrix.proofs.Members.{_∈_, any-in}
 

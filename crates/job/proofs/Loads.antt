@@ -1,5 +1,5 @@
 -- What loading tested of a job gives every premise of demand 3 and every bound that the stage relies on. Assumes nothing.
-use Prim.Native.Nat.{ℕ, _<_, _≤_, _+_}
+use Prim.Native.Nat.{ℕ, _<_, _≤_}
 use native.Mathlib.Omega.{arith}
 use native.Mathlib.Decide.{decLt}
 use mathlib.Core.Path.{_≡_, refl, sym, ap, _∙_, subst}
@@ -211,10 +211,10 @@ module _ (j : Job) (t : Tested j) where
         a-unit = λ r h. a-unit (unitMap j r) (good-map r h .small) (good-map r h .some);
         no-twin = no-twin;
         class-known = λ c m. t .fields .classes .each c m .each;
-        hint-known = λ v m h n. t .fields .virtRegs .each v m .hints h n .known;
+        hint-known = λ v m h n. t .fields .virtRegs .each v m .hints .each h n .known;
         a-class = λ v h. good-virtReg v h .class;
         plain-spill = λ v h. good-virtReg v h .spillWeight;
-        finite-hints = λ v m h n. t .fields .virtRegs .each v m .hints h n .finite;
+        finite-hints = λ v m h n. t .fields .virtRegs .each v m .hints .each h n .finite;
         one-class = one-class;
       }
 

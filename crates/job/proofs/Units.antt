@@ -1,11 +1,10 @@
 -- The units of a map: how many there are, that a map that is not 0 has one, and that they are decided by their members. Assumes nothing.
-use Prim.Native.Nat.{ℕ, zero, suc, _<_, _≤_, _+_, _/_, _%_, _^_}
+use Prim.Native.Nat.{ℕ, zero, suc, _<_, _+_, _/_, _%_, _^_}
 use native.Mathlib.Omega.{arith}
 use native.Mathlib.Nat.{pow-suc, div-one, mod-lt, div-div-eq-div-mul}
 use native.Mathlib.Decide.{decLt}
-use mathlib.Core.Path.{_≡_, refl, sym, ap, _∙_, subst}
+use mathlib.Core.Path.{_≡_, refl, sym, ap, _∙_}
 use mathlib.Core.List.{List, [], _∷_}
-use mathlib.Core.Bool.{Bool, true, false}
 use lib.Dec.{T, eqb, eqb-refl}
 use lib.Count.{onesIn}
 use lib.ListN.{length}

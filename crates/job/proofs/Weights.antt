@@ -1,7 +1,7 @@
 -- Weights whose bits refusal 9 lets through are no NaN and have no sign, and those of hints are finite. Assumes nothing.
 use Prim.Native.Nat.{ℕ, _<_, _+_, _^_}
 use native.Mathlib.Omega.{arith}
-use mathlib.Core.Path.{_≡_, refl, sym, ap, _∙_, subst}
+use mathlib.Core.Path.{_≡_, refl, sym, ap, _∙_}
 use mathlib.Core.Bool.{Bool, true, false, not, _||_, cond}
 use lib.Dec.{T, leb, eqb, T-not, nleb→lt}
 use lib.Ieee.{Float, nan, inf, fin, binary32, ofBits, toBits, isNan, nanBits}
