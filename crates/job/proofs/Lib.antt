@@ -5,3 +5,6 @@ pub mod Units
 pub mod Weights
 pub mod Fields
 pub mod Loads
+pub mod Hex
+pub mod Opened
+pub mod AllRefusals
