@@ -91,6 +91,9 @@ useAt u a x = record { unit = u; from = a; to = a + 2; reservation = FixedUse x 
 abbrev defAt : ℕ → ℕ → ℕ → Entry
 defAt u a b = record { unit = u; from = a; to = b; reservation = FixedDef }
 
+abbrev row : List Entry → List Step → Question → String → Row
+row fixed steps asks shows = record { fixed = fixed; steps = steps; asks = asks; shows = shows }
+
 -- fixed uses on unit 0, at 8 of value 1 and at 16 of value 2; v 0 is placed over the first one
 abbrev two : List Entry
 two = useAt 0 8 1 ∷ useAt 0 16 2 ∷ []
@@ -127,83 +130,83 @@ rows : List Row
 rows =
     -- ---- the check
     -- the walk over fixed uses goes on past the entry's end, so the second use is reported twice
-    record { fixed = two; steps = held; asks = reports false 1 (seg 4 20 3 ∷ []); shows = "check\nr 0 0 4 12 v 0\nr 0 0 8 10 fixed\nr 0 0 16 18 fixed\nr 0 0 16 18 fixed\n" } ∷
+    row two held (reports false 1 (seg 4 20 3 ∷ [])) "check\nr 0 0 4 12 v 0\nr 0 0 8 10 fixed\nr 0 0 16 18 fixed\nr 0 0 16 18 fixed\n" ∷
     -- a use of the segment's own value is passed over on that walk and as an entry
-    record { fixed = two; steps = held; asks = reports false 1 (seg 4 20 2 ∷ []); shows = "check\nr 0 0 4 12 v 0\nr 0 0 8 10 fixed\n" } ∷
+    row two held (reports false 1 (seg 4 20 2 ∷ [])) "check\nr 0 0 4 12 v 0\nr 0 0 8 10 fixed\n" ∷
     -- a held entry with an index is reported for each segment, with its uses, each whole though it reaches past the segment
-    record { fixed = two; steps = held; asks = reports false 1 (seg 4 6 3 ∷ seg 10 12 3 ∷ []); shows = "check\nr 0 0 4 6 v 0\nr 0 1 10 12 v 0\n" } ∷
-    record { fixed = two; steps = held; asks = reports false 1 (seg 4 9 3 ∷ seg 9 12 3 ∷ []); shows = "check\nr 0 0 4 9 v 0\nr 0 0 8 10 fixed\nr 0 1 9 12 v 0\nr 0 1 8 10 fixed\n" } ∷
+    row two held (reports false 1 (seg 4 6 3 ∷ seg 10 12 3 ∷ [])) "check\nr 0 0 4 6 v 0\nr 0 1 10 12 v 0\n" ∷
+    row two held (reports false 1 (seg 4 9 3 ∷ seg 9 12 3 ∷ [])) "check\nr 0 0 4 9 v 0\nr 0 0 8 10 fixed\nr 0 1 9 12 v 0\nr 0 1 8 10 fixed\n" ∷
     -- a use that is an entry is reported as far as it is shared
-    record { fixed = two; steps = []; asks = reports false 1 (seg 4 9 3 ∷ []); shows = "check\nr 0 0 8 9 fixed\n" } ∷
+    row two [] (reports false 1 (seg 4 9 3 ∷ [])) "check\nr 0 0 8 9 fixed\n" ∷
     -- without an index, an entry is passed over after the first segment that it overlaps; the full form reports it again
-    record { fixed = []; steps = plain; asks = reports false 1 (seg 4 10 1 ∷ seg 12 20 1 ∷ []); shows = "check\nr 0 0 8 10 v 7\n" } ∷
-    record { fixed = []; steps = plain; asks = reports true 1 (seg 4 10 1 ∷ seg 12 20 1 ∷ []); shows = "check\nr 0 0 8 10 v 7\nr 0 1 12 16 v 7\n" } ∷
+    row [] plain (reports false 1 (seg 4 10 1 ∷ seg 12 20 1 ∷ [])) "check\nr 0 0 8 10 v 7\n" ∷
+    row [] plain (reports true 1 (seg 4 10 1 ∷ seg 12 20 1 ∷ [])) "check\nr 0 0 8 10 v 7\nr 0 1 12 16 v 7\n" ∷
     -- the same where the first segment did not report it
-    record { fixed = two; steps = []; asks = reports false 1 (seg 4 9 1 ∷ seg 9 12 3 ∷ []); shows = "check\n" } ∷
-    record { fixed = two; steps = []; asks = reports true 1 (seg 4 9 1 ∷ seg 9 12 3 ∷ []); shows = "check\nr 0 1 9 10 fixed\n" } ∷
+    row two [] (reports false 1 (seg 4 9 1 ∷ seg 9 12 3 ∷ [])) "check\n" ∷
+    row two [] (reports true 1 (seg 4 9 1 ∷ seg 9 12 3 ∷ [])) "check\nr 0 1 9 10 fixed\n" ∷
     -- a use of the own value is not reported, one of another value is, and a def always
-    record { fixed = two; steps = []; asks = reports false 1 (seg 4 16 1 ∷ []); shows = "check\n" } ∷
-    record { fixed = two; steps = []; asks = reports true 1 (seg 4 20 1 ∷ []); shows = "check\nr 0 0 16 18 fixed\n" } ∷
-    record { fixed = defAt 0 8 12 ∷ []; steps = []; asks = reports false 1 (seg 4 10 1 ∷ seg 10 14 1 ∷ []); shows = "check\nr 0 0 8 10 fixed\n" } ∷
-    record { fixed = defAt 0 8 12 ∷ []; steps = []; asks = reports true 1 (seg 4 10 1 ∷ seg 10 14 1 ∷ []); shows = "check\nr 0 0 8 10 fixed\nr 0 1 10 12 fixed\n" } ∷
+    row two [] (reports false 1 (seg 4 16 1 ∷ [])) "check\n" ∷
+    row two [] (reports true 1 (seg 4 20 1 ∷ [])) "check\nr 0 0 16 18 fixed\n" ∷
+    row (defAt 0 8 12 ∷ []) [] (reports false 1 (seg 4 10 1 ∷ seg 10 14 1 ∷ [])) "check\nr 0 0 8 10 fixed\n" ∷
+    row (defAt 0 8 12 ∷ []) [] (reports true 1 (seg 4 10 1 ∷ seg 10 14 1 ∷ [])) "check\nr 0 0 8 10 fixed\nr 0 1 10 12 fixed\n" ∷
     -- ranges that touch share nothing
-    record { fixed = []; steps = plain; asks = reports false 1 (seg 4 8 2 ∷ seg 16 20 2 ∷ []); shows = "check\n" } ∷
-    record { fixed = two; steps = held; asks = reports true 1 (seg 2 4 3 ∷ seg 12 16 3 ∷ seg 18 20 3 ∷ []); shows = "check\n" } ∷
+    row [] plain (reports false 1 (seg 4 8 2 ∷ seg 16 20 2 ∷ [])) "check\n" ∷
+    row two held (reports true 1 (seg 2 4 3 ∷ seg 12 16 3 ∷ seg 18 20 3 ∷ [])) "check\n" ∷
     -- units ascend, and on a unit segments go in order, for each the entries by end
-    record { fixed = defAt 63 4 8 ∷ defAt 2 4 8 ∷ defAt 0 5 8 ∷ defAt 0 9 12 ∷ defAt 1 4 8 ∷ []; steps = []; asks = reports true 0x8000000000000005 (seg 4 10 1 ∷ seg 10 14 1 ∷ []); shows = "check\nr 0 0 5 8 fixed\nr 0 0 9 10 fixed\nr 0 1 10 12 fixed\nr 2 0 4 8 fixed\nr 63 0 4 8 fixed\n" } ∷
+    row (defAt 63 4 8 ∷ defAt 2 4 8 ∷ defAt 0 5 8 ∷ defAt 0 9 12 ∷ defAt 1 4 8 ∷ []) [] (reports true 0x8000000000000005 (seg 4 10 1 ∷ seg 10 14 1 ∷ [])) "check\nr 0 0 5 8 fixed\nr 0 0 9 10 fixed\nr 0 1 10 12 fixed\nr 2 0 4 8 fixed\nr 63 0 4 8 fixed\n" ∷
     -- no units, and no segments
-    record { fixed = two; steps = held; asks = reports true 0 (seg 4 20 3 ∷ []); shows = "check\n" } ∷
-    record { fixed = two; steps = held; asks = reports true 1 []; shows = "check\n" } ∷
+    row two held (reports true 0 (seg 4 20 3 ∷ [])) "check\n" ∷
+    row two held (reports true 1 []) "check\n" ∷
     -- ---- placing and evicting
     -- by unit and end, whatever the order in which they came
-    record { fixed = many; steps = []; asks = lines; shows = manyFresh } ∷
+    row many [] lines manyFresh ∷
     -- the uses inside a segment give way to one entry; its index counts the uses of its unit alone, the earlier ones too, and no defs
-    record { fixed = many; steps = placing 3 5 threeSegs ∷ []; asks = lines; shows = "table\nu 0 2 4 def\nu 0 4 6 use 5\nu 0 6 14 held 3 1\nu 0 14 18 held 3 -\nu 0 20 24 held 3 3\nu 0 24 28 def\nu 2 6 14 held 3 0\nu 2 14 18 held 3 -\nu 2 20 24 held 3 -\n" } ∷
+    row many (placing 3 5 threeSegs ∷ []) lines "table\nu 0 2 4 def\nu 0 4 6 use 5\nu 0 6 14 held 3 1\nu 0 14 18 held 3 -\nu 0 20 24 held 3 3\nu 0 24 28 def\nu 2 6 14 held 3 0\nu 2 14 18 held 3 -\nu 2 20 24 held 3 -\n" ∷
     -- evicting gives the table back
-    record { fixed = many; steps = placing 3 5 threeSegs ∷ evicting 3 5 threeSegs ∷ []; asks = lines; shows = manyFresh } ∷
+    row many (placing 3 5 threeSegs ∷ evicting 3 5 threeSegs ∷ []) lines manyFresh ∷
     -- evicting one of two leaves the other
-    record { fixed = many; steps = placing 3 5 threeSegs ∷ placing 4 4 (seg 30 34 9 ∷ []) ∷ evicting 3 5 threeSegs ∷ []; asks = lines; shows = "table\nu 0 2 4 def\nu 0 4 6 use 5\nu 0 8 10 use 1\nu 0 12 14 use 1\nu 0 20 22 use 1\nu 0 24 28 def\nu 2 8 10 use 1\nu 2 30 34 held 4 -\n" } ∷
-    record { fixed = two; steps = held; asks = lines; shows = "table\nu 0 4 12 held 0 0\nu 0 16 18 use 2\n" } ∷
-    record { fixed = two; steps = placing 0 1 (seg 4 12 1 ∷ []) ∷ evicting 0 1 (seg 4 12 1 ∷ []) ∷ []; asks = lines; shows = "table\nu 0 8 10 use 1\nu 0 16 18 use 2\n" } ∷
+    row many (placing 3 5 threeSegs ∷ placing 4 4 (seg 30 34 9 ∷ []) ∷ evicting 3 5 threeSegs ∷ []) lines "table\nu 0 2 4 def\nu 0 4 6 use 5\nu 0 8 10 use 1\nu 0 12 14 use 1\nu 0 20 22 use 1\nu 0 24 28 def\nu 2 8 10 use 1\nu 2 30 34 held 4 -\n" ∷
+    row two held lines "table\nu 0 4 12 held 0 0\nu 0 16 18 use 2\n" ∷
+    row two (held ++ (evicting 0 1 (seg 4 12 1 ∷ []) ∷ [])) lines "table\nu 0 8 10 use 1\nu 0 16 18 use 2\n" ∷
     -- ---- refusals of the check: 15, 8, then 5, 6, 7 by range
-    record { fixed = two; steps = held; asks = asking (lent 1) regs false 0 (seg 4 6 1 ∷ []); shows = "check\nr 0 0 4 6 v 0\n" } ∷
-    record { fixed = two; steps = held; asks = asking (65 ∷ 600 ∷ 2561 ∷ 2560 ∷ 2 ∷ 3 ∷ 2 ∷ []) regs false 1 (seg 4 8 1 ∷ seg 8 12 1 ∷ []); shows = "check\n" } ∷
+    row two held (asking (lent 1) regs false 0 (seg 4 6 1 ∷ [])) "check\nr 0 0 4 6 v 0\n" ∷
+    row two held (asking (65 ∷ 600 ∷ 2561 ∷ 2560 ∷ 2 ∷ 3 ∷ 2 ∷ []) regs false 1 (seg 4 8 1 ∷ seg 8 12 1 ∷ [])) "check\n" ∷
     -- one size short, or one missing
-    record { fixed = two; steps = held; asks = asking (63 ∷ 512 ∷ 2560 ∷ 2560 ∷ 1 ∷ 1 ∷ 1 ∷ []) regs false 0 (seg 4 6 1 ∷ []); shows = "refused 15\n" } ∷
-    record { fixed = two; steps = held; asks = asking (64 ∷ 511 ∷ 2560 ∷ 2560 ∷ 1 ∷ 1 ∷ 1 ∷ []) regs false 0 (seg 4 6 1 ∷ []); shows = "refused 15\n" } ∷
-    record { fixed = two; steps = held; asks = asking (64 ∷ 512 ∷ 2560 ∷ 2559 ∷ 1 ∷ 1 ∷ 1 ∷ []) regs false 0 (seg 4 6 1 ∷ []); shows = "refused 15\n" } ∷
-    record { fixed = two; steps = held; asks = asking (64 ∷ 512 ∷ 2560 ∷ 2560 ∷ 2 ∷ 2 ∷ 1 ∷ []) regs false 0 (seg 4 6 1 ∷ seg 8 10 1 ∷ []); shows = "refused 15\n" } ∷
-    record { fixed = two; steps = held; asks = asking (64 ∷ 512 ∷ 2560 ∷ 2560 ∷ 1 ∷ 1 ∷ []) regs false 0 (seg 4 6 1 ∷ []); shows = "refused 15\n" } ∷
+    row two held (asking (63 ∷ 512 ∷ 2560 ∷ 2560 ∷ 1 ∷ 1 ∷ 1 ∷ []) regs false 0 (seg 4 6 1 ∷ [])) "refused 15\n" ∷
+    row two held (asking (64 ∷ 511 ∷ 2560 ∷ 2560 ∷ 1 ∷ 1 ∷ 1 ∷ []) regs false 0 (seg 4 6 1 ∷ [])) "refused 15\n" ∷
+    row two held (asking (64 ∷ 512 ∷ 2560 ∷ 2559 ∷ 1 ∷ 1 ∷ 1 ∷ []) regs false 0 (seg 4 6 1 ∷ [])) "refused 15\n" ∷
+    row two held (asking (64 ∷ 512 ∷ 2560 ∷ 2560 ∷ 2 ∷ 2 ∷ 1 ∷ []) regs false 0 (seg 4 6 1 ∷ seg 8 10 1 ∷ [])) "refused 15\n" ∷
+    row two held (asking (64 ∷ 512 ∷ 2560 ∷ 2560 ∷ 1 ∷ 1 ∷ []) regs false 0 (seg 4 6 1 ∷ [])) "refused 15\n" ∷
     -- 15 before 8, 8 before 5, and 5, 6, 7 in each range before those of the next
-    record { fixed = two; steps = held; asks = asking [] regs false 2 []; shows = "refused 15\n" } ∷
-    record { fixed = two; steps = held; asks = asking (lent 0) regs false 2 []; shows = "refused 8\n" } ∷
-    record { fixed = two; steps = held; asks = asking (lent 1) regs false 1 (seg 9 7 1 ∷ []); shows = "refused 5\n" } ∷
-    record { fixed = two; steps = held; asks = asking (lent 0) regs false 1 []; shows = "refused 5\n" } ∷
-    record { fixed = two; steps = held; asks = asking (lent 1) regs false 1 (seg 8 8 1 ∷ []); shows = "refused 5\n" } ∷
-    record { fixed = two; steps = held; asks = asking (lent 1) regs false 1 (seg 7 8 1 ∷ []); shows = "refused 6\n" } ∷
-    record { fixed = two; steps = held; asks = asking (lent 1) regs false 1 (seg 4 7 1 ∷ []); shows = "refused 6\n" } ∷
-    record { fixed = two; steps = held; asks = asking (lent 2) regs true 1 (seg 4 8 1 ∷ seg 6 12 1 ∷ []); shows = "refused 7\n" } ∷
-    record { fixed = two; steps = held; asks = asking (lent 2) regs true 1 (seg 4 8 1 ∷ seg 3 12 1 ∷ []); shows = "refused 6\n" } ∷
-    record { fixed = two; steps = held; asks = asking (lent 2) regs true 1 (seg 4 7 1 ∷ seg 8 8 1 ∷ []); shows = "refused 6\n" } ∷
-    record { fixed = two; steps = held; asks = asking (lent 3) regs true 1 (seg 4 8 1 ∷ seg 6 12 1 ∷ seg 12 12 1 ∷ []); shows = "refused 7\n" } ∷
+    row two held (asking [] regs false 2 []) "refused 15\n" ∷
+    row two held (asking (lent 0) regs false 2 []) "refused 8\n" ∷
+    row two held (asking (lent 1) regs false 1 (seg 9 7 1 ∷ [])) "refused 5\n" ∷
+    row two held (asking (lent 0) regs false 1 []) "refused 5\n" ∷
+    row two held (asking (lent 1) regs false 1 (seg 8 8 1 ∷ [])) "refused 5\n" ∷
+    row two held (asking (lent 1) regs false 1 (seg 7 8 1 ∷ [])) "refused 6\n" ∷
+    row two held (asking (lent 1) regs false 1 (seg 4 7 1 ∷ [])) "refused 6\n" ∷
+    row two held (asking (lent 2) regs true 1 (seg 4 8 1 ∷ seg 6 12 1 ∷ [])) "refused 7\n" ∷
+    row two held (asking (lent 2) regs true 1 (seg 4 8 1 ∷ seg 3 12 1 ∷ [])) "refused 6\n" ∷
+    row two held (asking (lent 2) regs true 1 (seg 4 7 1 ∷ seg 8 8 1 ∷ [])) "refused 6\n" ∷
+    row two held (asking (lent 3) regs true 1 (seg 4 8 1 ∷ seg 6 12 1 ∷ seg 12 12 1 ∷ [])) "refused 7\n" ∷
     -- ---- spare: the first entry that ends past the start counts, and the range's end is closed
-    record { fixed = []; steps = plain; asks = sparing lentSpare 0 (seg 4 8 0); shows = "not spare\n" } ∷
-    record { fixed = []; steps = plain; asks = sparing lentSpare 0 (seg 4 6 0); shows = "spare\n" } ∷
-    record { fixed = []; steps = plain; asks = sparing lentSpare 0 (seg 12 14 0); shows = "not spare\n" } ∷
-    record { fixed = []; steps = plain; asks = sparing lentSpare 0 (seg 16 20 0); shows = "spare\n" } ∷
-    record { fixed = []; steps = plain; asks = sparing lentSpare 63 (seg 8 16 0); shows = "spare\n" } ∷
-    record { fixed = two; steps = []; asks = sparing lentSpare 0 (seg 10 14 0); shows = "spare\n" } ∷
-    record { fixed = two; steps = []; asks = sparing lentSpare 0 (seg 10 16 0); shows = "not spare\n" } ∷
-    record { fixed = two; steps = []; asks = sparing lentSpare 0 (seg 8 9 1); shows = "not spare\n" } ∷
+    row [] plain (sparing lentSpare 0 (seg 4 8 0)) "not spare\n" ∷
+    row [] plain (sparing lentSpare 0 (seg 4 6 0)) "spare\n" ∷
+    row [] plain (sparing lentSpare 0 (seg 12 14 0)) "not spare\n" ∷
+    row [] plain (sparing lentSpare 0 (seg 16 20 0)) "spare\n" ∷
+    row [] plain (sparing lentSpare 63 (seg 8 16 0)) "spare\n" ∷
+    row two [] (sparing lentSpare 0 (seg 10 14 0)) "spare\n" ∷
+    row two [] (sparing lentSpare 0 (seg 10 16 0)) "not spare\n" ∷
+    row two [] (sparing lentSpare 0 (seg 8 9 1)) "not spare\n" ∷
     -- 15, 8, then 5, 6
-    record { fixed = []; steps = plain; asks = sparing (2560 ∷ []) 64 (seg 8 8 0); shows = "refused 15\n" } ∷
-    record { fixed = []; steps = plain; asks = sparing (2560 ∷ 2559 ∷ []) 0 (seg 4 6 0); shows = "refused 15\n" } ∷
-    record { fixed = []; steps = plain; asks = sparing lentSpare 64 (seg 8 8 0); shows = "refused 8\n" } ∷
-    record { fixed = []; steps = plain; asks = sparing lentSpare 0 (seg 7 7 0); shows = "refused 5\n" } ∷
-    record { fixed = []; steps = plain; asks = sparing lentSpare 0 (seg 4 7 0); shows = "refused 6\n" } ∷
-    record { fixed = []; steps = plain; asks = sparing lentSpare 0 (seg 3 6 0); shows = "refused 6\n" } ∷
+    row [] plain (sparing (2560 ∷ []) 64 (seg 8 8 0)) "refused 15\n" ∷
+    row [] plain (sparing (2560 ∷ 2559 ∷ []) 0 (seg 4 6 0)) "refused 15\n" ∷
+    row [] plain (sparing lentSpare 64 (seg 8 8 0)) "refused 8\n" ∷
+    row [] plain (sparing lentSpare 0 (seg 7 7 0)) "refused 5\n" ∷
+    row [] plain (sparing lentSpare 0 (seg 4 7 0)) "refused 6\n" ∷
+    row [] plain (sparing lentSpare 0 (seg 3 6 0)) "refused 6\n" ∷
     -- ---- storage: unit and end; start and reservation; the fixed uses by unit; and past the last one, what is written there
-    record { fixed = defAt 2 5 8 ∷ useAt 1 8 1 ∷ useAt 0 16 0 ∷ []; steps = placing 3 2 (seg 4 12 1 ∷ seg 14 18 1 ∷ []) ∷ []; asks = storing 6; shows = "ends 18 4294967308 4294967314 8589934600 18446744073709551615 18446744073709551615\nrests 68719476737 17184063489 60133736448 21474836480 0 0\nuses 1048576 281474977234945 18446744073709551615 18446744073709551615 18446744073709551615 18446744073709551615\n" } ∷
+    row (defAt 2 5 8 ∷ useAt 1 8 1 ∷ useAt 0 16 0 ∷ []) (placing 3 2 (seg 4 12 1 ∷ seg 14 18 1 ∷ []) ∷ []) (storing 6) "ends 18 4294967308 4294967314 8589934600 18446744073709551615 18446744073709551615\nrests 68719476737 17184063489 60133736448 21474836480 0 0\nuses 1048576 281474977234945 18446744073709551615 18446744073709551615 18446744073709551615 18446744073709551615\n" ∷
     []
 
 rows-right : T (all right rows)
