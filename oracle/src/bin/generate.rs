@@ -247,7 +247,7 @@ const SMALL: Shape = Shape {
     fixed: 8,
     segments: 3,
     hints: 4,
-    instructions: 7,
+    instructions: 10,
 };
 
 const TINY: Shape = Shape {
@@ -284,6 +284,13 @@ impl Points {
         (a.min(b), a.max(b))
     }
 
+    /// A few instructions of these, so that not every live range meets all
+    /// others.
+    fn window(&self, rng: &mut Rng) -> Points {
+        let count = rng.between(1, self.count.div_ceil(3));
+        Points { first: self.first + 4 * rng.below(self.count - count + 1) as u32, count }
+    }
+
     /// Between 1 and `most` ranges, sorted and disjoint, some of them touching.
     fn ranges(&self, rng: &mut Rng, most: usize) -> Vec<(u32, u32)> {
         let mut points: Vec<u32> = (0..2 * rng.between(1, most)).map(|_| self.any(rng)).collect();
@@ -307,15 +314,28 @@ impl Points {
     }
 }
 
-/// Weights on which equal sums, zeros, roundings and sums above the largest
-/// number occur.
-fn hint_weight(rng: &mut Rng) -> u32 {
+/// The hint weights of a job.
+#[derive(Clone, Copy)]
+enum Palette {
+    /// All kinds of weights, zeros and roundings among them.
+    Mixed,
+    /// One weight, so that sums are often equal.
+    Equal,
+    /// Weights whose sums are often infinite.
+    Heavy,
+}
+
+fn hint_weight(rng: &mut Rng, palette: Palette) -> u32 {
     let plain = [0.5f32, 1.0, 1.0, 1.0, 2.0, 2.0, 2.5, 3.0, 4.0, 0.1, 0.2, 0.3, 16_777_216.0];
-    match rng.below(20) {
-        0 | 1 => 0,
-        2 => LARGEST,
-        3 => rng.pick(&[1, 0x007F_FFFF, 0x0080_0000, 0x3F80_0001, LARGEST - 1]),
-        _ => rng.pick(&plain).to_bits(),
+    match palette {
+        Palette::Equal => 1f32.to_bits(),
+        Palette::Heavy if rng.chance(60) => LARGEST - rng.below(2) as u32,
+        _ => match rng.below(20) {
+            0 | 1 => 0,
+            2 => LARGEST,
+            3 => rng.pick(&[1, 0x007F_FFFF, 0x0080_0000, 0x3F80_0001, LARGEST - 1]),
+            _ => rng.pick(&plain).to_bits(),
+        },
     }
 }
 
@@ -338,8 +358,11 @@ fn unless_default<T: PartialEq>(rng: &mut Rng, value: T, default: T) -> Option<T
 /// Registers with 1 to 4 of the given units, no two with the same ones.
 fn registers(rng: &mut Rng, count: usize, units: &[u8]) -> Vec<u64> {
     let mut registers: Vec<u64> = Vec::new();
+    // Registers that share no unit leave a second place to go to, which
+    // eviction by preference needs.
+    let apart = rng.chance(40);
     for _ in 0..4 * count {
-        let size = if rng.chance(50) { 1 } else { rng.between(1, 4) };
+        let size = if apart || rng.chance(30) { 1 } else { rng.between(1, 4) };
         let map = (0..size).fold(0, |map, _| map | 1u64 << rng.pick(units));
         if registers.len() < count && !registers.contains(&map) {
             registers.push(map);
@@ -352,8 +375,11 @@ fn registers(rng: &mut Rng, count: usize, units: &[u8]) -> Vec<u64> {
 fn class(rng: &mut Rng, registers: usize) -> Vec<u8> {
     let mut all: Vec<u8> = (0..registers as u8).collect();
     rng.shuffle(&mut all);
-    let least = if rng.chance(90) { 1 } else { 0 };
-    all.truncate(rng.between(least, registers.max(least)));
+    match rng.below(10) {
+        0 => all.truncate(rng.below(registers + 1)),
+        1..=4 => all.truncate(rng.between(1, registers.max(1))),
+        _ => {}
+    }
     all
 }
 
@@ -435,6 +461,9 @@ struct Setting<'a> {
     classes: usize,
     registers: usize,
     fixed: &'a [Reservation],
+    palette: Palette,
+    /// Chance of a short live range, in percent.
+    short: usize,
     /// Chance of an infinite spill weight, in percent.
     infinite: usize,
     /// The class of each set met so far: numbers of one set share it.
@@ -456,7 +485,7 @@ impl Setting<'_> {
             return None;
         }
         let count = rng.between(1, self.shape.hints);
-        Some((0..count).map(|_| (rng.below(self.registers) as u8, hint_weight(rng))).collect())
+        Some((0..count).map(|_| (rng.below(self.registers) as u8, hint_weight(rng, self.palette))).collect())
     }
 
     fn virt_reg(&mut self, rng: &mut Rng, number: usize) -> VirtReg {
@@ -467,7 +496,8 @@ impl Setting<'_> {
             0 => rng.pick(&[(1 << 27) - 2, (1 << 27) - 1, 1 << 27, u32::MAX]),
             _ => rng.below(4) as u32,
         };
-        let ranges = self.points.ranges(rng, self.shape.segments);
+        let points = if rng.chance(self.short) { self.points.window(rng) } else { self.points };
+        let ranges = points.ranges(rng, self.shape.segments);
         let segments = ranges
             .into_iter()
             .map(|(from, to)| Segment { from, to, value: segment_value(rng, self.fixed, (from, to)) })
@@ -490,7 +520,7 @@ fn unit_pool(rng: &mut Rng, most: usize) -> Vec<u8> {
     if rng.chance(15) {
         rng.shuffle(&mut units);
     }
-    units.truncate(rng.between(1, most));
+    units.truncate(rng.between(1, most).max(rng.between(1, most)));
     units
 }
 
@@ -512,7 +542,11 @@ fn job_budget(rng: &mut Rng) -> Option<u32> {
 
 fn valid(rng: &mut Rng, shape: &Shape) -> Job {
     let units = unit_pool(rng, shape.units);
-    let register_count = if rng.chance(2) { 0 } else { rng.between(1, shape.registers) };
+    let register_count = match rng.below(50) {
+        0 => 0,
+        1..=15 => rng.between(1, shape.registers),
+        _ => shape.registers,
+    };
     let registers = registers(rng, register_count, &units);
     let class_count = rng.between(1, shape.classes);
     let classes: Vec<Vec<u8>> = (0..class_count).map(|_| class(rng, registers.len())).collect();
@@ -527,6 +561,8 @@ fn valid(rng: &mut Rng, shape: &Shape) -> Job {
         classes: classes.len(),
         registers: registers.len(),
         fixed: &fixed,
+        palette: rng.pick(&[Palette::Mixed, Palette::Mixed, Palette::Equal, Palette::Heavy]),
+        short: rng.pick(&[0, 60, 90]),
         infinite: rng.pick(&[0, 0, 10, 30]),
         set_classes: Vec::new(),
     };
@@ -561,7 +597,8 @@ fn large(rng: &mut Rng) -> Job {
     let points = Points { first: 0, count: instructions };
     let units: Vec<u8> = (0..register_count as u8).collect();
     let fixed = large_fixed(rng, &units, points);
-    let virt_regs = (0..512).map(|_| large_virt_reg(rng, points, &fixed, registers.len())).collect();
+    let virt_regs =
+        (0..512).map(|number| large_virt_reg(rng, number, points, &fixed, registers.len())).collect();
     Job { registers, classes, fixed, virt_regs, ..Default::default() }
 }
 
@@ -585,7 +622,13 @@ fn large_fixed(rng: &mut Rng, units: &[u8], points: Points) -> Vec<Reservation> 
     fixed
 }
 
-fn large_virt_reg(rng: &mut Rng, points: Points, fixed: &[Reservation], registers: usize) -> VirtReg {
+fn large_virt_reg(
+    rng: &mut Rng,
+    number: usize,
+    points: Points,
+    fixed: &[Reservation],
+    registers: usize,
+) -> VirtReg {
     let instructions = match rng.below(10) {
         0 => rng.between(1, points.count / 2),
         1..=4 => rng.between(1, 40),
@@ -605,12 +648,13 @@ fn large_virt_reg(rng: &mut Rng, points: Points, fixed: &[Reservation], register
         ),
         false => None,
     };
-    let set = if rng.chance(20) { Some(0) } else { None };
+    // The first three numbers' own sets are those that each class shares.
+    let class = if number < 3 { number as u8 } else { rng.pick(&[0, 0, 1, 2]) };
+    let set = if rng.chance(20) { Some(class as u16) } else { None };
     let short = instructions == 1 && rng.chance(20);
     let spill = if short { INFINITE } else { (rng.between(1, 400) as f32 / instructions as f32).to_bits() };
     VirtReg {
-        // Set 0 is shared, and the first number's own set is 0 too.
-        class: unless_default(rng, 0, 0),
+        class: unless_default(rng, class, 0),
         set,
         spill: Some(spill),
         size: Some(instructions as u32),
@@ -647,7 +691,7 @@ fn spread_hints(rng: &mut Rng, virt_regs: &mut [VirtReg], hints: usize, register
     let count = virt_regs.len();
     for (v, virt_reg) in virt_regs.iter_mut().enumerate() {
         let own = hints / count + (v < hints % count) as usize;
-        let some = (0..own).map(|_| (rng.below(registers) as u8, hint_weight(rng))).collect();
+        let some = (0..own).map(|_| (rng.below(registers) as u8, hint_weight(rng, Palette::Mixed))).collect();
         virt_reg.hints = if own == 0 { None } else { Some(some) };
     }
 }
@@ -716,7 +760,7 @@ fn limit_of_virt_regs(rng: &mut Rng, which: usize, over: usize, job: &mut Job) {
         10 => {
             // Only the second one goes above, so that the first table stands.
             spread_hints(rng, &mut job.virt_regs, 64, 1);
-            job.virt_regs[1].hints = Some(vec![(0, hint_weight(rng)); 64 + over]);
+            job.virt_regs[1].hints = Some(vec![(0, hint_weight(rng, Palette::Mixed)); 64 + over]);
         }
         11 => {
             job.virt_regs = spread_segments(17, 17);
@@ -736,7 +780,7 @@ fn limit_of_virt_regs(rng: &mut Rng, which: usize, over: usize, job: &mut Job) {
         }
         15 => {
             job.registers = (0..64).map(|r| 1u64 << r).collect();
-            job.virt_regs[0].hints = Some(vec![(63 + over as u8, hint_weight(rng))]);
+            job.virt_regs[0].hints = Some(vec![(63 + over as u8, hint_weight(rng, Palette::Mixed))]);
         }
         16 => limit_of_sizes(rng, job),
         17 => limit_of_points(rng, over, job),
@@ -1073,36 +1117,53 @@ fn nameable(rng: &mut Rng, job: &Job, number: usize) -> Option<u8> {
     if names.is_empty() { None } else { Some(rng.pick(&names)) }
 }
 
-fn a_number(rng: &mut Rng, job: &Job) -> usize {
+/// Which numbers hold a register, as far as the calls so far tell: a guess,
+/// so that most placements and evictions find the standing they need.
+type Guess = Vec<bool>;
+
+/// A number, mostly one that is guessed to hold a register or not, as asked.
+fn a_number(rng: &mut Rng, guess: &Guess, holds: bool) -> usize {
     if rng.chance(3) {
-        return rng.pick(&[job.virt_regs.len(), 511, 512, 65_535]);
+        return rng.pick(&[guess.len(), 511, 512, 65_535]);
     }
-    rng.below(job.virt_regs.len())
+    let fit: Vec<usize> = (0..guess.len()).filter(|v| guess[*v] == holds).collect();
+    if fit.is_empty() || rng.chance(15) { rng.below(guess.len()) } else { rng.pick(&fit) }
 }
 
-fn call_place(rng: &mut Rng, job: &Job, out: &mut Vec<u8>) {
-    let number = a_number(rng, job);
+fn call_place(rng: &mut Rng, job: &Job, guess: &mut Guess, out: &mut Vec<u8>) {
+    let number = a_number(rng, guess, false);
+    if let Some(holds) = guess.get_mut(number) {
+        *holds = true;
+    }
     let register = match nameable(rng, job, number) {
         Some(register) if !rng.chance(4) => register,
         _ => rng.pick(&[0, 1, 3, job.registers.len() as u8, 64, 255]),
     };
-    let weight = if rng.chance(4) { bad_weight(rng) } else { hint_weight(rng) };
+    let weight = if rng.chance(4) { bad_weight(rng) } else { hint_weight(rng, Palette::Mixed) };
     out.push(1);
     out.extend((number as u16).to_le_bytes());
     out.push(register);
     out.extend(weight.to_le_bytes());
 }
 
-fn call_evict(rng: &mut Rng, job: &Job, out: &mut Vec<u8>) {
+fn call_evict(rng: &mut Rng, guess: &mut Guess, out: &mut Vec<u8>) {
+    let number = a_number(rng, guess, true);
+    if let Some(holds) = guess.get_mut(number) {
+        *holds = false;
+    }
     out.push(2);
-    out.extend((a_number(rng, job) as u16).to_le_bytes());
+    out.extend((number as u16).to_le_bytes());
 }
 
-fn call_run(rng: &mut Rng, out: &mut Vec<u8>) {
+fn call_run(rng: &mut Rng, guess: &mut Guess, out: &mut Vec<u8>) {
     let budget = match rng.below(4) {
         0 => rng.pick(&[1_000, 100_000, u32::MAX]),
         _ => rng.below(8) as u32,
     };
+    // Each dequeue places one, as long as there is one to place.
+    for holds in guess.iter_mut().filter(|holds| !**holds).take(budget as usize) {
+        *holds = true;
+    }
     out.push(3);
     out.extend(budget.to_le_bytes());
 }
@@ -1174,11 +1235,14 @@ fn script(rng: &mut Rng, shape: &Shape) -> Vec<u8> {
     }
     let points = Points { first: 0, count: shape.instructions };
     let mut calls = Vec::new();
+    let mut guess = vec![false; job.virt_regs.len()];
     for _ in 0..rng.between(1, 12) {
         match rng.below(20) {
-            0..=6 => call_place(rng, &job, &mut calls),
-            7..=10 => call_evict(rng, &job, &mut calls),
-            11..=14 => call_run(rng, &mut calls),
+            0..=6 if guess.contains(&false) => call_place(rng, &job, &mut guess, &mut calls),
+            2..=10 if guess.contains(&true) => call_evict(rng, &mut guess, &mut calls),
+            0..=9 => call_place(rng, &job, &mut guess, &mut calls),
+            10 => call_evict(rng, &mut guess, &mut calls),
+            11..=14 => call_run(rng, &mut guess, &mut calls),
             15..=17 => call_check(rng, &job, points, &mut calls),
             _ => call_spare(rng, &job, points, &mut calls),
         }
