@@ -67,7 +67,7 @@ impl Loaded {
             reginfo: registers(&job),
             uses: Default::default(),
             hints: hints(&job),
-            reg_matrix: reservations(&job),
+            reg_matrix: RegMatrix::new(),
             virt_regs: virtual_registers(&job),
             virt_reg_builder: Default::default(),
             spill_allocator: Default::default(),
@@ -76,7 +76,17 @@ impl Loaded {
             stats: Stats::default(),
             options: Default::default(),
         };
-        Self { job, allocator: Allocator::new(), around }
+        let mut loaded = Self { job, allocator: Allocator::new(), around };
+        reserve(&loaded.job, &mut loaded.around.reg_matrix);
+        loaded
+    }
+
+    /// Brings the matrix back to the fresh job and keeps the room that all
+    /// buffers have grown to, as the published allocator does between uses.
+    pub fn clear(&mut self) {
+        self.around.reg_matrix.clear();
+        reserve(&self.job, &mut self.around.reg_matrix);
+        self.around.stats = Stats::default();
     }
 
     /// Queues all virtual registers, so that direct calls can be made.
@@ -84,7 +94,7 @@ impl Loaded {
         self.allocator.run_on(&mut self.around, 0, false);
     }
 
-    /// Runs the fresh job; it must not have been started.
+    /// Runs the fresh job; the matrix must hold its reservations alone.
     pub fn run_whole(&mut self, budget: u32) -> End {
         self.allocator.run_on(&mut self.around, budget, false)
     }
@@ -228,8 +238,8 @@ fn hints(job: &Job) -> Hints {
     hints
 }
 
-fn reservations(job: &Job) -> RegMatrix {
-    let mut matrix = RegMatrix::new();
+/// Enters the fixed reservations of a job in an empty matrix.
+fn reserve(job: &Job, matrix: &mut RegMatrix) {
     for reservation in &job.reservations {
         let unit = RegUnit::new(usize::from(reservation.unit));
         let range = live_range(reservation.from, reservation.to);
@@ -240,7 +250,6 @@ fn reservations(job: &Job) -> RegMatrix {
             Reserved::Def => matrix.reserve_fixed_def(unit, range),
         }
     }
-    matrix
 }
 
 fn virtual_registers(job: &Job) -> VirtRegs {
