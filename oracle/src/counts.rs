@@ -67,13 +67,22 @@ impl Counts {
         line!(text, "jobs {}", self.jobs);
         line!(text, "loaded {}", self.loaded);
         for number in 1..=15 {
-            line!(text, "refused {number} {}", self.refused.get(&number).unwrap_or(&0));
+            line!(
+                text,
+                "refused {number} {}",
+                self.refused.get(&number).unwrap_or(&0)
+            );
         }
         line!(text, "end done {}", self.done);
         line!(text, "end spent {}", self.spent);
         line!(text, "end toomany {}", self.toomany);
         line!(text, "dequeues {}", self.dequeues);
-        line!(text, "evicted by cost {} in {} dequeues", self.cost_evicted, self.cost_dequeues);
+        line!(
+            text,
+            "evicted by cost {} in {} dequeues",
+            self.cost_evicted,
+            self.cost_dequeues
+        );
         line!(
             text,
             "evicted by preference {} in {} dequeues",

@@ -7,5 +7,8 @@ pub fn display_iter<T: fmt::Display>(
     iter: impl IntoIterator<Item = T>,
     separator: &str,
 ) -> impl fmt::Display {
-    iter.into_iter().map(|item| item.to_string()).collect::<Vec<_>>().join(separator)
+    iter.into_iter()
+        .map(|item| item.to_string())
+        .collect::<Vec<_>>()
+        .join(separator)
 }

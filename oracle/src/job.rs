@@ -89,7 +89,11 @@ pub struct Job {
 
 /// Refuses with a number if a condition holds.
 pub fn refuse_if(condition: bool, number: u8) -> Answer<()> {
-    if condition { Err(Refusal(number)) } else { Ok(()) }
+    if condition {
+        Err(Refusal(number))
+    } else {
+        Ok(())
+    }
 }
 
 /// Tests a range: 5 where it is empty, then 6 where a point has slot 3.
@@ -140,7 +144,10 @@ impl<'a> Reader<'a> {
 
     fn number(&mut self, bytes: usize) -> Answer<u64> {
         let taken = self.take(bytes)?;
-        Ok(taken.iter().rev().fold(0, |number, &byte| number << 8 | u64::from(byte)))
+        Ok(taken
+            .iter()
+            .rev()
+            .fold(0, |number, &byte| number << 8 | u64::from(byte)))
     }
 
     pub fn u8(&mut self) -> Answer<u8> {
@@ -161,7 +168,11 @@ impl<'a> Reader<'a> {
 
     pub fn segment(&mut self) -> Answer<Segment> {
         let mut field = Reader::new(self.take(10)?);
-        Ok(Segment { from: field.u32()?, to: field.u32()?, value: field.u16()? })
+        Ok(Segment {
+            from: field.u32()?,
+            to: field.u32()?,
+            value: field.u16()?,
+        })
     }
 }
 
@@ -256,15 +267,15 @@ fn read_reservation(reader: &mut Reader, earlier: &[Reservation]) -> Answer<Rese
     let map = reader.u8()?;
     let unit = if map & 1 != 0 { reader.u8()? } else { 0 };
     let from = if map & 2 != 0 { reader.u32()? } else { 0 };
-    let end = if map & 4 != 0 { Some(reader.u32()?) } else { None };
-    let value = if map & 8 != 0 { Some(reader.u16()?) } else { None };
+    let end = if map & 4 != 0 { reader.u32()? } else { 0 };
+    let value = if map & 8 != 0 { reader.u16()? } else { 0 };
     refuse_if(map >> 4 != 0, UNFIT_MAP)?;
 
     // The end of a use is a number without a width, so that it is never below
     // its start; a start at Boundary keeps it within 32 bits.
-    let (to, kind) = match (end, value) {
-        (None, Some(value)) => (u64::from(from) + USE_LENGTH, Reserved::Use { value }),
-        (Some(end), None) => (u64::from(end), Reserved::Def),
+    let (to, kind) = match (map & 4 != 0, map & 8 != 0) {
+        (false, true) => (u64::from(from) + USE_LENGTH, Reserved::Use { value }),
+        (true, false) => (u64::from(end), Reserved::Def),
         _ => return Err(Refusal(UNFIT_MAP)),
     };
     refuse_if(u64::from(from) >= to, EMPTY)?;
@@ -273,10 +284,16 @@ fn read_reservation(reader: &mut Reader, earlier: &[Reservation]) -> Answer<Rese
         Reserved::Def => from & 3 != 3 && to & 3 == 0,
     };
     refuse_if(!at_boundary, BAD_POINT)?;
-    let previous = earlier.iter().rev().find(|reservation| reservation.unit == unit);
-    refuse_if(previous.is_some_and(|previous| from < previous.to), UNSORTED)?;
+    let previous = earlier.iter().rfind(|other| other.unit == unit);
+    let previous_end = previous.map_or(0, |previous| previous.to);
+    refuse_if(from < previous_end, UNSORTED)?;
     refuse_if(usize::from(unit) >= UNITS, UNKNOWN_NUMBER)?;
-    Ok(Reservation { unit, from, to: to as u32, kind })
+    Ok(Reservation {
+        unit,
+        from,
+        to: to as u32,
+        kind,
+    })
 }
 
 fn read_virtual_registers(reader: &mut Reader, job: &Job) -> Answer<Vec<VirtualRegister>> {
@@ -286,8 +303,7 @@ fn read_virtual_registers(reader: &mut Reader, job: &Job) -> Answer<Vec<VirtualR
     let mut hints_left = HINTS;
     let mut segments_left = SEGMENTS;
     for number in 0..count {
-        let read =
-            read_virtual_register(reader, job, number as u16, hints_left, segments_left)?;
+        let read = read_virtual_register(reader, job, number as u16, hints_left, segments_left)?;
         hints_left -= read.hints.len();
         segments_left -= read.segments.len();
         table.push(read);
@@ -305,19 +321,30 @@ fn read_virtual_register(
     let map = reader.u8()?;
     refuse_if(map >> 6 != 0, UNFIT_MAP)?;
     refuse_if(map & 32 == 0, EMPTY)?;
-    let class = if map & 1 != 0 {
-        reader.u8()?
-    } else {
-        0
-    };
+    let class = if map & 1 != 0 { reader.u8()? } else { 0 };
     refuse_if(usize::from(class) >= job.classes.len(), UNKNOWN_NUMBER)?;
     let set = if map & 2 != 0 { reader.u16()? } else { number };
     refuse_if(set >= SETS, UNKNOWN_NUMBER)?;
-    let spill_weight = if map & 4 != 0 { spill_weight(reader.u32()?)? } else { 0.0 };
+    let spill_weight = if map & 4 != 0 {
+        spill_weight(reader.u32()?)?
+    } else {
+        0.0
+    };
     let size = if map & 8 != 0 { reader.u32()? } else { 0 };
-    let hints = if map & 16 != 0 { read_hints(reader, job, hints_left)? } else { Vec::new() };
+    let hints = if map & 16 != 0 {
+        read_hints(reader, job, hints_left)?
+    } else {
+        Vec::new()
+    };
     let segments = read_segments(reader, segments_left)?;
-    Ok(VirtualRegister { class, set, spill_weight, size, hints, segments })
+    Ok(VirtualRegister {
+        class,
+        set,
+        spill_weight,
+        size,
+        hints,
+        segments,
+    })
 }
 
 fn read_hints(reader: &mut Reader, job: &Job, left: usize) -> Answer<Vec<Hint>> {
@@ -329,7 +356,10 @@ fn read_hints(reader: &mut Reader, job: &Job, left: usize) -> Answer<Vec<Hint>> 
         let mut field = Reader::new(reader.take(5)?);
         let register = field.u8()?;
         refuse_if(usize::from(register) >= job.registers.len(), UNKNOWN_NUMBER)?;
-        hints.push(Hint { register, weight: finite_weight(field.u32()?)? });
+        hints.push(Hint {
+            register,
+            weight: finite_weight(field.u32()?)?,
+        });
     }
     Ok(hints)
 }
@@ -358,7 +388,9 @@ fn read_probe(reader: &mut Reader) -> Answer<(u32, u32)> {
 
 /// Whether an element stands twice in a list.
 fn has_repeat<T: PartialEq>(list: &[T]) -> bool {
-    list.iter().enumerate().any(|(index, element)| list[..index].contains(element))
+    list.iter()
+        .enumerate()
+        .any(|(index, element)| list[..index].contains(element))
 }
 
 /// Whether two registers have the same units, or a class a register twice.
@@ -379,9 +411,19 @@ fn has_mixed_set(job: &Job) -> bool {
 fn has_cut_use(job: &Job) -> bool {
     let cuts = |segment: &Segment, reservation: &Reservation| {
         let inside = |point| reservation.from < point && point < reservation.to;
-        reservation.kind == (Reserved::Use { value: segment.value })
+        reservation.kind
+            == (Reserved::Use {
+                value: segment.value,
+            })
             && (inside(segment.from) || inside(segment.to))
     };
-    let mut segments = job.virtual_registers.iter().flat_map(|register| &register.segments);
-    segments.any(|segment| job.reservations.iter().any(|reservation| cuts(segment, reservation)))
+    let mut segments = job
+        .virtual_registers
+        .iter()
+        .flat_map(|register| &register.segments);
+    segments.any(|segment| {
+        job.reservations
+            .iter()
+            .any(|reservation| cuts(segment, reservation))
+    })
 }

@@ -40,7 +40,11 @@ pub fn sheet(text: &mut String, loaded: &Loaded, word: End, dequeues: u64) {
     }
     table(text, loaded);
     if let Some((from, to)) = loaded.job.probe {
-        let units = loaded.job.registers.iter().fold(0, |all, units| all | units);
+        let units = loaded
+            .job
+            .registers
+            .iter()
+            .fold(0, |all, units| all | units);
         text.push_str("spare");
         for unit in (0..64).filter(|unit| units >> unit & 1 != 0) {
             if loaded.is_spare(unit, from, to) {
@@ -56,8 +60,14 @@ fn table(text: &mut String, loaded: &Loaded) {
     for entry in loaded.around.reg_matrix.entries() {
         _ = write!(text, "u {} {} {} ", entry.unit, entry.from, entry.to);
         match entry.owner {
-            Owner::Held { vreg, fixed_index: Some(index) } => line!(text, "held {vreg} {index}"),
-            Owner::Held { vreg, fixed_index: None } => line!(text, "held {vreg} -"),
+            Owner::Held {
+                vreg,
+                fixed_index: Some(index),
+            } => line!(text, "held {vreg} {index}"),
+            Owner::Held {
+                vreg,
+                fixed_index: None,
+            } => line!(text, "held {vreg} -"),
             Owner::Use { value } => line!(text, "use {value}"),
             Owner::Def => line!(text, "def"),
         }
@@ -72,7 +82,12 @@ pub fn state(text: &mut String, loaded: &Loaded) {
                 line!(text, "s {number} unassigned {}", u8::from(flag));
             }
             Standing::Assigned { flag, reg, weight } => {
-                line!(text, "s {number} assigned {} {reg} {}", u8::from(flag), weight.to_bits());
+                line!(
+                    text,
+                    "s {number} assigned {} {reg} {}",
+                    u8::from(flag),
+                    weight.to_bits()
+                );
             }
             Standing::Dead => line!(text, "s {number} dead"),
         }

@@ -76,7 +76,11 @@ impl Loaded {
             stats: Stats::default(),
             options: Default::default(),
         };
-        let mut loaded = Self { job, allocator: Allocator::new(), around };
+        let mut loaded = Self {
+            job,
+            allocator: Allocator::new(),
+            around,
+        };
         reserve(&loaded.job, &mut loaded.around.reg_matrix);
         loaded
     }
@@ -121,14 +125,23 @@ impl Loaded {
     /// A direct placement; tests 8, 9, 13, 14.
     pub fn place(&mut self, number: u16, register: u8, weight: u32) -> Answer<()> {
         let number = usize::from(number);
-        refuse_if(number >= self.job.virtual_registers.len(), job::UNKNOWN_NUMBER)?;
-        refuse_if(usize::from(register) >= self.job.registers.len(), job::UNKNOWN_NUMBER)?;
+        refuse_if(
+            number >= self.job.virtual_registers.len(),
+            job::UNKNOWN_NUMBER,
+        )?;
+        refuse_if(
+            usize::from(register) >= self.job.registers.len(),
+            job::UNKNOWN_NUMBER,
+        )?;
         refuse_if(!self.may_hold(number, register), job::UNKNOWN_NUMBER)?;
         let weight = job::finite_weight(weight)?;
         let unassigned = matches!(self.standing(number), Standing::Unassigned { .. });
         refuse_if(!unassigned, job::WRONG_STANDING)?;
         let segments = &self.job.virtual_registers[number].segments;
-        refuse_if(!self.reports(register, segments, false).is_empty(), job::INTERFERENCE)?;
+        refuse_if(
+            !self.reports(register, segments, false).is_empty(),
+            job::INTERFERENCE,
+        )?;
 
         let (vreg, reg) = (VirtReg::new(number), PhysReg::new(usize::from(register)));
         self.allocator.place(&mut self.around, vreg, reg, weight);
@@ -138,7 +151,10 @@ impl Loaded {
     /// A direct eviction; tests 8, 13.
     pub fn evict(&mut self, number: u16) -> Answer<()> {
         let number = usize::from(number);
-        refuse_if(number >= self.job.virtual_registers.len(), job::UNKNOWN_NUMBER)?;
+        refuse_if(
+            number >= self.job.virtual_registers.len(),
+            job::UNKNOWN_NUMBER,
+        )?;
         let assigned = matches!(self.standing(number), Standing::Assigned { .. });
         refuse_if(!assigned, job::WRONG_STANDING)?;
         self.allocator.evict(&mut self.around, VirtReg::new(number));
@@ -148,7 +164,10 @@ impl Loaded {
     /// A check asked by itself; tests 8, then 5 without segments, then 5, 6, 7
     /// range by range.
     pub fn check(&self, register: u8, segments: &[Segment], full: bool) -> Answer<Vec<Report>> {
-        refuse_if(usize::from(register) >= self.job.registers.len(), job::UNKNOWN_NUMBER)?;
+        refuse_if(
+            usize::from(register) >= self.job.registers.len(),
+            job::UNKNOWN_NUMBER,
+        )?;
         refuse_if(segments.is_empty(), job::EMPTY)?;
         let mut previous_end = 0;
         for &segment in segments {
@@ -161,8 +180,9 @@ impl Loaded {
     /// Collects all that the published check reports.
     fn reports(&self, register: u8, segments: &[Segment], full: bool) -> Vec<Report> {
         let numbered = segments.iter().enumerate();
-        let numbered: Vec<_> =
-            numbered.map(|(index, &segment)| NumberedSegment { index, segment }).collect();
+        let numbered: Vec<_> = numbered
+            .map(|(index, &segment)| NumberedSegment { index, segment })
+            .collect();
         let mut reports = Vec::new();
         _ = self.around.reg_matrix.check_interference(
             &numbered,
@@ -186,7 +206,9 @@ impl Loaded {
     }
 
     pub fn is_spare(&self, unit: usize, from: u32, to: u32) -> bool {
-        self.around.reg_matrix.is_unit_free(RegUnit::new(unit), live_range(from, to))
+        self.around
+            .reg_matrix
+            .is_unit_free(RegUnit::new(unit), live_range(from, to))
     }
 }
 
@@ -210,12 +232,20 @@ fn registers(job: &Job) -> JobRegs {
     let register = |&number: &u8| PhysReg::new(usize::from(number));
     let class = |(number, order): (usize, &Vec<u8>)| {
         let mut members = PhysRegSet::new();
-        order.iter().for_each(|number| members.insert(register(number)));
+        order
+            .iter()
+            .for_each(|number| members.insert(register(number)));
         let table = job.virtual_registers.iter();
         for other in table.filter(|other| usize::from(other.class) == number) {
-            other.hints.iter().for_each(|hint| members.insert(register(&hint.register)));
+            other
+                .hints
+                .iter()
+                .for_each(|hint| members.insert(register(&hint.register)));
         }
-        ClassData { order: order.iter().map(register).collect(), members }
+        ClassData {
+            order: order.iter().map(register).collect(),
+            members,
+        }
     };
     JobRegs {
         units: job.registers.clone(),

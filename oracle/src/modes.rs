@@ -87,13 +87,21 @@ fn time(input: &[u8]) -> Result<String, String> {
             loaded.run_whole(budget);
             let elapsed = start.elapsed();
             let made = loaded.around.stats.dequeued;
-            line!(text, "job {number} dequeues {made} ns {}", elapsed.as_nanos());
+            line!(
+                text,
+                "job {number} dequeues {made} ns {}",
+                elapsed.as_nanos()
+            );
             total += elapsed;
             timed += 1;
             dequeues += made;
         }
         number += 1;
     })?;
-    line!(text, "total jobs {timed} dequeues {dequeues} ns {}", total.as_nanos());
+    line!(
+        text,
+        "total jobs {timed} dequeues {dequeues} ns {}",
+        total.as_nanos()
+    );
     Ok(text)
 }

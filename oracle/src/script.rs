@@ -2,6 +2,7 @@
 
 use std::fmt::Write;
 
+use crate::Stats;
 use crate::counts::Counts;
 use crate::internal::allocator::direct::End;
 use crate::job::{self, Answer, Reader, Refusal, Segment};
@@ -10,11 +11,27 @@ use crate::loaded::{Loaded, Report};
 
 /// A call and its arguments.
 enum Call {
-    Place { number: u16, register: u8, weight: u32 },
-    Evict { number: u16 },
-    Run { budget: u32 },
-    Check { register: u8, segments: Vec<Segment>, full: bool },
-    Spare { unit: u8, from: u32, to: u32 },
+    Place {
+        number: u16,
+        register: u8,
+        weight: u32,
+    },
+    Evict {
+        number: u16,
+    },
+    Run {
+        budget: u32,
+    },
+    Check {
+        register: u8,
+        segments: Vec<Segment>,
+        full: bool,
+    },
+    Spare {
+        unit: u8,
+        from: u32,
+        to: u32,
+    },
 }
 
 /// Reads a call; none where its kind is unknown or the bytes end inside it.
@@ -30,15 +47,29 @@ fn read_arguments(reader: &mut Reader, kind: u8) -> Answer<Option<Call>> {
             register: reader.u8()?,
             weight: reader.u32()?,
         },
-        2 => Call::Evict { number: reader.u16()? },
-        3 => Call::Run { budget: reader.u32()? },
+        2 => Call::Evict {
+            number: reader.u16()?,
+        },
+        3 => Call::Run {
+            budget: reader.u32()?,
+        },
         4 | 5 => {
             let register = reader.u8()?;
             let count = reader.u8()?;
-            let segments = (0..count).map(|_| reader.segment()).collect::<Answer<_>>()?;
-            Call::Check { register, segments, full: kind == 5 }
+            let segments = (0..count)
+                .map(|_| reader.segment())
+                .collect::<Answer<_>>()?;
+            Call::Check {
+                register,
+                segments,
+                full: kind == 5,
+            }
         }
-        6 => Call::Spare { unit: reader.u8()?, from: reader.u32()?, to: reader.u32()? },
+        6 => Call::Spare {
+            unit: reader.u8()?,
+            from: reader.u32()?,
+            to: reader.u32()?,
+        },
         _ => return Ok(None),
     }))
 }
@@ -78,43 +109,61 @@ fn calls(text: &mut String, reader: &mut Reader, loaded: &mut Loaded, counts: &m
     }
 }
 
+/// Carries a call out and prints its answer; a call that may change the state
+/// is followed by the whole state.
 fn carry_out(text: &mut String, call: Call, loaded: &mut Loaded, counts: &mut Counts) {
     match call {
-        Call::Place { number, register, weight } => {
-            let answer = loaded.place(number, register, weight);
-            ok_or_refused(text, counts.call("place", answer));
-        }
-        Call::Evict { number } => {
-            let before = loaded.around.stats;
-            let answer = loaded.evict(number);
-            // The recorders are for runs: a direct eviction leaves them alone.
-            loaded.around.stats = before;
-            ok_or_refused(text, counts.call("evict", answer));
-        }
-        Call::Run { budget } => {
-            loaded.around.stats = Default::default();
-            let end = loaded.run(budget);
-            let stats = loaded.around.stats;
-            counts.run(end, &stats);
-            _ = counts.call("run", Ok(()));
-            listing::end(text, end, stats.dequeued);
-        }
-        Call::Check { register, segments, full } => {
+        Call::Check {
+            register,
+            segments,
+            full,
+        } => {
             let name = if full { "full check" } else { "short check" };
-            let answer = counts.call(name, loaded.check(register, &segments, full));
-            check(text, answer);
-            return;
+            check(
+                text,
+                counts.call(name, loaded.check(register, &segments, full)),
+            );
         }
         Call::Spare { unit, from, to } => {
-            match counts.call("spare", loaded.spare(unit, from, to)) {
-                Err(refusal) => listing::refused(text, refusal),
-                Ok(true) => line!(text, "spare"),
-                Ok(false) => line!(text, "busy"),
-            }
-            return;
+            spare(text, counts.call("spare", loaded.spare(unit, from, to)));
+        }
+        Call::Place {
+            number,
+            register,
+            weight,
+        } => {
+            let answer = loaded.place(number, register, weight);
+            ok_or_refused(text, counts.call("place", answer));
+            listing::state(text, loaded);
+        }
+        Call::Evict { number } => {
+            let answer = loaded.evict(number);
+            ok_or_refused(text, counts.call("evict", answer));
+            listing::state(text, loaded);
+        }
+        Call::Run { budget } => {
+            run(text, budget, loaded, counts);
+            listing::state(text, loaded);
         }
     }
-    listing::state(text, loaded);
+}
+
+/// Runs with recorders that hold this run alone.
+fn run(text: &mut String, budget: u32, loaded: &mut Loaded, counts: &mut Counts) {
+    loaded.around.stats = Stats::default();
+    let end = loaded.run(budget);
+    let stats = loaded.around.stats;
+    counts.run(end, &stats);
+    _ = counts.call("run", Ok(()));
+    listing::end(text, end, stats.dequeued);
+}
+
+fn spare(text: &mut String, answer: Answer<bool>) {
+    match answer {
+        Err(refusal) => listing::refused(text, refusal),
+        Ok(true) => line!(text, "spare"),
+        Ok(false) => line!(text, "busy"),
+    }
 }
 
 fn ok_or_refused(text: &mut String, answer: Answer<()>) {
@@ -130,7 +179,14 @@ fn check(text: &mut String, answer: Answer<Vec<Report>>) {
         Ok(reports) => reports,
     };
     line!(text, "check");
-    for Report { unit, segment, from, to, holder } in reports {
+    for Report {
+        unit,
+        segment,
+        from,
+        to,
+        holder,
+    } in reports
+    {
         match holder {
             Some(number) => line!(text, "r {unit} {segment} {from} {to} v {number}"),
             None => line!(text, "r {unit} {segment} {from} {to} fixed"),

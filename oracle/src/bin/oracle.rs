@@ -11,10 +11,18 @@ fn main() -> ExitCode {
         return ExitCode::FAILURE;
     };
     let mut input = Vec::new();
-    let read = io::stdin().lock().read_to_end(&mut input).map_err(|error| error.to_string());
-    let done = read.and_then(|_| regalloc3::modes::answer(&mode, &input)).and_then(|output| {
-        io::stdout().lock().write_all(&output).map_err(|error| error.to_string())
-    });
+    let read = io::stdin()
+        .lock()
+        .read_to_end(&mut input)
+        .map_err(|error| error.to_string());
+    let done = read
+        .and_then(|_| regalloc3::modes::answer(&mode, &input))
+        .and_then(|output| {
+            io::stdout()
+                .lock()
+                .write_all(&output)
+                .map_err(|error| error.to_string())
+        });
     match done {
         Ok(()) => ExitCode::SUCCESS,
         Err(message) => {

@@ -13,7 +13,11 @@ impl<T> CompactList<T> {
     pub fn from_iter(iter: impl IntoIterator<Item = T>, pool: &mut CompactListPool<T>) -> Self {
         let start = pool.elems.len();
         pool.elems.extend(iter);
-        Self { start, len: pool.elems.len() - start, marker: PhantomData }
+        Self {
+            start,
+            len: pool.elems.len() - start,
+            marker: PhantomData,
+        }
     }
 
     pub fn len(&self) -> usize {

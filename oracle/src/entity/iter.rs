@@ -13,7 +13,10 @@ pub struct Keys<K> {
 
 impl<K> Keys<K> {
     pub fn with_len(len: usize) -> Self {
-        Self { range: 0..len, marker: PhantomData }
+        Self {
+            range: 0..len,
+            marker: PhantomData,
+        }
     }
 }
 
@@ -39,7 +42,10 @@ pub struct Keyed<K, I> {
 
 impl<K, I: Iterator> Keyed<K, I> {
     pub fn new(elems: I) -> Self {
-        Self { elems: elems.enumerate(), marker: PhantomData }
+        Self {
+            elems: elems.enumerate(),
+            marker: PhantomData,
+        }
     }
 }
 

@@ -14,7 +14,10 @@ pub struct PrimaryMap<K, V> {
 
 impl<K: EntityRef, V> PrimaryMap<K, V> {
     pub fn new() -> Self {
-        Self { elems: Vec::new(), marker: PhantomData }
+        Self {
+            elems: Vec::new(),
+            marker: PhantomData,
+        }
     }
 
     pub fn clear(&mut self) {

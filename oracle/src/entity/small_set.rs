@@ -13,7 +13,10 @@ pub struct SmallEntitySet<K, W, const N: usize> {
 
 impl<K: EntityRef, const N: usize> SmallEntitySet<K, u64, N> {
     pub fn new() -> Self {
-        Self { words: [0; N], marker: PhantomData }
+        Self {
+            words: [0; N],
+            marker: PhantomData,
+        }
     }
 
     pub fn insert(&mut self, key: K) {

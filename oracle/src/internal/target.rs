@@ -29,7 +29,9 @@ pub struct JobRegs {
 
 /// The units of a map, ascending.
 fn units_of(map: u64) -> impl Iterator<Item = RegUnit> {
-    (0..64).filter(move |unit| map >> unit & 1 != 0).map(RegUnit::new)
+    (0..64)
+        .filter(move |unit| map >> unit & 1 != 0)
+        .map(RegUnit::new)
 }
 
 impl RegInfo for JobRegs {

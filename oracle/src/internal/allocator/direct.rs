@@ -87,7 +87,14 @@ impl Allocator {
         preference_weight: f32,
     ) {
         self.queue.take_off(vreg);
-        context(self, around).assign(vreg, CandidateReg { reg, preference_weight }, false);
+        context(self, around).assign(
+            vreg,
+            CandidateReg {
+                reg,
+                preference_weight,
+            },
+            false,
+        );
     }
 
     /// Evicts a virtual register directly, as an eviction in a dequeue would.
@@ -99,16 +106,20 @@ impl Allocator {
 
     pub fn standing(&self, vreg: VirtReg) -> Standing {
         match self.assignments[vreg] {
-            Assignment::Assigned { evicted_for_preference, reg, preference_weight } => {
-                Standing::Assigned {
-                    flag: evicted_for_preference,
-                    reg: reg.index(),
-                    weight: preference_weight,
-                }
-            }
-            Assignment::Unassigned { evicted_for_preference } => {
-                Standing::Unassigned { flag: evicted_for_preference }
-            }
+            Assignment::Assigned {
+                evicted_for_preference,
+                reg,
+                preference_weight,
+            } => Standing::Assigned {
+                flag: evicted_for_preference,
+                reg: reg.index(),
+                weight: preference_weight,
+            },
+            Assignment::Unassigned {
+                evicted_for_preference,
+            } => Standing::Unassigned {
+                flag: evicted_for_preference,
+            },
             Assignment::Dead => Standing::Dead,
         }
     }
@@ -121,7 +132,9 @@ impl Allocator {
     /// The register last given to each set that was given one, ascending.
     pub fn last_given(&self) -> Vec<(usize, usize)> {
         let given = self.last_allocated_reg.iter();
-        given.filter_map(|(set, reg)| Some((set.index(), reg.expand()?.index()))).collect()
+        given
+            .filter_map(|(set, reg)| Some((set.index(), reg.expand()?.index())))
+            .collect()
     }
 }
 

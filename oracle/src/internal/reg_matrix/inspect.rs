@@ -5,8 +5,13 @@ use crate::reginfo::RegUnit;
 
 /// Who has an entry of the table.
 pub enum Owner {
-    Held { vreg: usize, fixed_index: Option<u32> },
-    Use { value: u32 },
+    Held {
+        vreg: usize,
+        fixed_index: Option<u32>,
+    },
+    Use {
+        value: u32,
+    },
     Def,
 }
 
@@ -21,7 +26,10 @@ pub struct TableEntry {
 fn owner(entry: &super::Entry) -> Owner {
     let number = (entry.fixed_use != !0).then_some(entry.fixed_use);
     match (entry.vreg.expand(), number) {
-        (Some(vreg), fixed_index) => Owner::Held { vreg: vreg.index(), fixed_index },
+        (Some(vreg), fixed_index) => Owner::Held {
+            vreg: vreg.index(),
+            fixed_index,
+        },
         (None, Some(value)) => Owner::Use { value },
         (None, None) => Owner::Def,
     }

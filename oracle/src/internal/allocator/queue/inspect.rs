@@ -10,7 +10,8 @@ impl AllocationQueue {
 
     /// Takes a virtual register off the queue, at whatever stage it stands.
     pub fn take_off(&mut self, vreg: VirtReg) {
-        self.queue.retain(|entry| entry.bits as u32 as usize != vreg.index());
+        self.queue
+            .retain(|entry| entry.bits as u32 as usize != vreg.index());
     }
 
     /// The queued entries, greatest first.
