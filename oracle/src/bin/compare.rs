@@ -633,12 +633,14 @@ fn pieces(length: usize) -> Vec<Range<usize>> {
     out
 }
 
-/// Lower values to try for a number of a kind.
+/// Lower values to try for a number of a kind. Steps of 1 are for small ones
+/// alone, as a large one would take forever.
 fn lower(kind: Kind, n: u64) -> Vec<u64> {
+    let step = if n <= 64 { 1 } else { n / 8 };
     let values = match kind {
-        Kind::Number => vec![0, n / 2, n.saturating_sub(1)],
-        Kind::Point => vec![0, n / 2 & !3, n.saturating_sub(4), n & !3, n.saturating_sub(1)],
-        Kind::Weight => vec![0, 0x3F80_0000, 0x4000_0000, n.saturating_sub(1)],
+        Kind::Number => vec![0, n / 2, n.saturating_sub(step)],
+        Kind::Point => vec![0, n / 2 & !3, n & !3, n.saturating_sub(step)],
+        Kind::Weight => vec![0, 0x3F80_0000, 0x4000_0000],
         Kind::Units => vec![1, n & n.wrapping_sub(1), n >> 1],
     };
     values.into_iter().filter(|value| *value < n).collect()
@@ -688,8 +690,9 @@ fn edits_of_numbers(input: &Input, out: &mut Vec<Edit>) {
     points.dedup();
     // Gaps between points close in whole instructions, so that slots stay.
     for pair in points.windows(2) {
-        let gap = (pair[1] - pair[0]) & !3;
-        out.extend([gap, 4].into_iter().filter(|by| *by > 0 && *by <= pair[1]).map(|by| Edit::Points(pair[1], by)));
+        let gap = pair[1] - pair[0];
+        let moves = [gap & !3, gap / 2 & !3].into_iter().filter(|by| *by > 0);
+        out.extend(moves.map(|by| Edit::Points(pair[1], by)));
     }
     for (place, (kind, n)) in numbers.into_iter().enumerate() {
         out.extend(lower(kind, n).into_iter().map(|value| Edit::Number(place, value)));
