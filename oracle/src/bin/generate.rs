@@ -1185,6 +1185,10 @@ fn call_check(rng: &mut Rng, job: &Job, points: Points, out: &mut Vec<u8>) {
     if !rng.chance(3) {
         ends.sort();
     }
+    // A long segment meets fixed uses past the end of an entry with an index.
+    if let Some(last) = ends.last_mut().filter(|_| rng.chance(40)) {
+        *last = (*last).max(points.past_end());
+    }
     out.push(rng.pick(&[4, 5]));
     out.push(register);
     out.push(count as u8);
@@ -1228,13 +1232,36 @@ fn spoil(rng: &mut Rng, calls: &mut Vec<u8>) {
     }
 }
 
+/// Gives a job fixed uses inside the segment of its first virtual register
+/// and past it, for checks that walk over them; the first call places it. No
+/// sheet shows that walk.
+fn line_up_uses(rng: &mut Rng, job: &mut Job, calls: &mut Vec<u8>) {
+    calls.extend([1, 0, 0, 0, 0, 0, 0, 0]);
+    (job.registers, job.classes) = (vec![1, 2], vec![vec![0, 1]]);
+    let to = rng.pick(&[6, 10, 14]);
+    job.fixed.clear();
+    for from in [0, 4, 8, 12, 16].into_iter().filter(|_| rng.chance(70)).collect::<Vec<u32>>() {
+        let value = if from < to { 1 } else { rng.below(3) as u16 };
+        job.fixed.push(Reservation { from: Some(from), value: Some(value), ..Default::default() });
+    }
+    job.virt_regs.truncate(3);
+    job.virt_regs.resize(job.virt_regs.len().max(1), VirtReg::default());
+    for v in &mut job.virt_regs {
+        (v.class, v.hints) = (None, None);
+        v.segments.iter_mut().flatten().for_each(|s| s.value = 9);
+    }
+    job.virt_regs[0].segments = Some(vec![Segment { from: 0, to, value: 1 }]);
+}
+
 fn script(rng: &mut Rng, shape: &Shape) -> Vec<u8> {
     let mut job = valid(rng, shape);
-    if rng.chance(2) {
-        damage_job(rng, &mut job);
+    let mut calls = Vec::new();
+    match rng.below(100) {
+        0 | 1 => damage_job(rng, &mut job),
+        2..=21 => line_up_uses(rng, &mut job, &mut calls),
+        _ => {}
     }
     let points = Points { first: 0, count: shape.instructions };
-    let mut calls = Vec::new();
     let mut guess = vec![false; job.virt_regs.len()];
     for _ in 0..rng.between(1, 12) {
         match rng.below(20) {
