@@ -76,7 +76,10 @@ impl Calls {
             stdout.read_to_end(&mut printed)
         })?;
         let status = child.lock().unwrap().wait()?;
-        self.0.lock().unwrap().retain(|(_, other)| !Arc::ptr_eq(other, &child));
+        self.0
+            .lock()
+            .unwrap()
+            .retain(|(_, other)| !Arc::ptr_eq(other, &child));
         if status.code().is_none() {
             printed.extend(format!("(the call ended by a signal: {status})\n").bytes());
         }
@@ -117,16 +120,23 @@ struct Sides {
 
 impl Sides {
     fn oracle(&self, inputs: &[Vec<u8>]) -> io::Result<Vec<Vec<u8>>> {
-        let printed = self.calls.answer(&self.oracle, &join(inputs), self.seconds)?;
+        let printed = self
+            .calls
+            .answer(&self.oracle, &join(inputs), self.seconds)?;
         Ok(split(&printed, inputs.len()))
     }
 
     fn program(&self, inputs: &[Vec<u8>]) -> io::Result<Vec<Vec<u8>>> {
         if self.in_batches {
-            let printed = self.calls.answer(&self.program, &join(inputs), self.seconds)?;
+            let printed = self
+                .calls
+                .answer(&self.program, &join(inputs), self.seconds)?;
             return Ok(split(&printed, inputs.len()));
         }
-        inputs.iter().map(|input| self.calls.answer(&self.program, input, self.seconds)).collect()
+        inputs
+            .iter()
+            .map(|input| self.calls.answer(&self.program, input, self.seconds))
+            .collect()
     }
 
     /// The first input on which the sides differ, without more calls of the
@@ -166,7 +176,11 @@ impl<'a> Reader<'a> {
     }
 
     fn optional(&mut self, stands: bool, width: usize) -> Option<Option<u64>> {
-        if stands { self.number(width).map(Some) } else { Some(None) }
+        if stands {
+            self.number(width).map(Some)
+        } else {
+            Some(None)
+        }
     }
 
     /// A count and as many items, if the map's bit stands.
@@ -209,7 +223,11 @@ struct Segment {
 
 impl Segment {
     fn read(reader: &mut Reader) -> Option<Segment> {
-        Some(Segment { from: reader.number(4)?, to: reader.number(4)?, value: reader.number(2)? })
+        Some(Segment {
+            from: reader.number(4)?,
+            to: reader.number(4)?,
+            value: reader.number(2)?,
+        })
     }
 
     fn write(&self, out: &mut Vec<u8>) {
@@ -249,7 +267,9 @@ impl Reservation {
 
     fn write(&self, out: &mut Vec<u8>) {
         let bits = [self.unit, self.from, self.to, self.value];
-        let map = (0..4).fold(self.stray_bits, |map, i| map | (bits[i].is_some() as u64) << i);
+        let map = (0..4).fold(self.stray_bits, |map, i| {
+            map | (bits[i].is_some() as u64) << i
+        });
         put(out, 1, map);
         put_optional(out, 1, self.unit);
         put_optional(out, 4, self.from);
@@ -288,14 +308,18 @@ impl VirtReg {
             set: reader.optional(map & 2 != 0, 2)?,
             spill: reader.optional(map & 4 != 0, 4)?,
             size: reader.optional(map & 8 != 0, 4)?,
-            hints: reader.table(map & Self::HINTS != 0, 1, |r| Some((r.number(1)?, r.number(4)?)))?,
+            hints: reader.table(map & Self::HINTS != 0, 1, |r| {
+                Some((r.number(1)?, r.number(4)?))
+            })?,
             segments: reader.table(map & Self::SEGMENTS != 0, 2, Segment::read)?,
         })
     }
 
     fn write(&self, out: &mut Vec<u8>) {
         let bits = [self.class, self.set, self.spill, self.size];
-        let map = (0..4).fold(self.map & !15, |map, i| map | (bits[i].is_some() as u64) << i);
+        let map = (0..4).fold(self.map & !15, |map, i| {
+            map | (bits[i].is_some() as u64) << i
+        });
         put(out, 1, map);
         put_optional(out, 1, self.class);
         put_optional(out, 2, self.set);
@@ -349,7 +373,11 @@ impl Job {
             classes: r.table(map & 2 != 0, 1, |r| r.table(true, 1, |r| r.number(1)))?,
             fixed: r.table(map & 4 != 0, 2, Reservation::read)?,
             virt_regs: r.table(map & 8 != 0, 2, VirtReg::read)?,
-            probe: if map & 16 != 0 { Some((r.number(4)?, r.number(4)?)) } else { None },
+            probe: if map & 16 != 0 {
+                Some((r.number(4)?, r.number(4)?))
+            } else {
+                None
+            },
             budget: r.optional(map & 32 != 0, 4)?,
             tail: r.0.to_vec(),
         })
@@ -361,13 +389,17 @@ impl Job {
         put(&mut out, 1, self.map & !48 | last);
         if self.map & 1 != 0 {
             put(&mut out, 1, self.registers.len() as u64);
-            self.registers.iter().for_each(|units| put(&mut out, 8, *units));
+            self.registers
+                .iter()
+                .for_each(|units| put(&mut out, 8, *units));
         }
         if self.map & 2 != 0 {
             put(&mut out, 1, self.classes.len() as u64);
             for class in &self.classes {
                 put(&mut out, 1, class.len() as u64);
-                class.iter().for_each(|register| put(&mut out, 1, *register));
+                class
+                    .iter()
+                    .for_each(|register| put(&mut out, 1, *register));
             }
         }
         if self.map & 4 != 0 {
@@ -388,8 +420,13 @@ impl Job {
     }
 
     fn visit(&mut self, f: Visit) {
-        self.registers.iter_mut().for_each(|units| f(Kind::Units, units));
-        self.classes.iter_mut().flatten().for_each(|register| f(Kind::Number, register));
+        self.registers
+            .iter_mut()
+            .for_each(|units| f(Kind::Units, units));
+        self.classes
+            .iter_mut()
+            .flatten()
+            .for_each(|register| f(Kind::Number, register));
         self.fixed.iter_mut().for_each(|r| r.visit(f));
         self.virt_regs.iter_mut().for_each(|v| v.visit(f));
         self.probe.iter_mut().for_each(|(from, to)| {
@@ -402,10 +439,14 @@ impl Job {
     /// The fields that may be left out.
     fn visit_optional(&mut self, f: &mut dyn FnMut(&mut Option<u64>)) {
         for r in &mut self.fixed {
-            [&mut r.unit, &mut r.from, &mut r.to, &mut r.value].into_iter().for_each(&mut *f);
+            [&mut r.unit, &mut r.from, &mut r.to, &mut r.value]
+                .into_iter()
+                .for_each(&mut *f);
         }
         for v in &mut self.virt_regs {
-            [&mut v.class, &mut v.set, &mut v.spill, &mut v.size].into_iter().for_each(&mut *f);
+            [&mut v.class, &mut v.set, &mut v.spill, &mut v.size]
+                .into_iter()
+                .for_each(&mut *f);
         }
         f(&mut self.budget);
     }
@@ -422,7 +463,11 @@ impl Job {
         for v in &mut self.virt_regs {
             v.hints.retain(|(register, _)| *register != gone);
             v.hints.iter_mut().for_each(|(register, _)| below(register));
-            v.map &= if v.hints.is_empty() { !VirtReg::HINTS } else { !0 };
+            v.map &= if v.hints.is_empty() {
+                !VirtReg::HINTS
+            } else {
+                !0
+            };
         }
     }
 
@@ -469,14 +514,20 @@ impl Call {
 
     fn write(&self, out: &mut Vec<u8>) {
         let (kind, numbers): (u64, &[(usize, u64)]) = match self {
-            Call::Place(number, register, weight) => (1, &[(2, *number), (1, *register), (4, *weight)]),
+            Call::Place(number, register, weight) => {
+                (1, &[(2, *number), (1, *register), (4, *weight)])
+            }
             Call::Evict(number) => (2, &[(2, *number)]),
             Call::Run(budget) => (3, &[(4, *budget)]),
-            Call::Check(form, register, segments) => (*form, &[(1, *register), (1, segments.len() as u64)]),
+            Call::Check(form, register, segments) => {
+                (*form, &[(1, *register), (1, segments.len() as u64)])
+            }
             Call::Spare(unit, from, to) => (6, &[(1, *unit), (4, *from), (4, *to)]),
         };
         put(out, 1, kind);
-        numbers.iter().for_each(|(width, number)| put(out, *width, *number));
+        numbers
+            .iter()
+            .for_each(|(width, number)| put(out, *width, *number));
         if let Call::Check(_, _, segments) = self {
             segments.iter().for_each(|s| s.write(out));
         }
@@ -544,7 +595,12 @@ impl Input {
     fn read(bytes: &[u8], is_script: bool) -> Option<Input> {
         let (mut calls, mut no_call) = (Vec::new(), Vec::new());
         if !is_script {
-            return Some(Input { job: Body::read(bytes), is_script, calls, no_call });
+            return Some(Input {
+                job: Body::read(bytes),
+                is_script,
+                calls,
+                no_call,
+            });
         }
         let mut reader = Reader(bytes);
         let length = reader.number(4)? as usize;
@@ -557,7 +613,12 @@ impl Input {
             };
             calls.push(call);
         }
-        Some(Input { job, is_script, calls, no_call })
+        Some(Input {
+            job,
+            is_script,
+            calls,
+            no_call,
+        })
     }
 
     fn write(&self) -> Vec<u8> {
@@ -627,7 +688,11 @@ fn pieces(length: usize) -> Vec<Range<usize>> {
     let mut out = Vec::new();
     let mut size = length;
     while size > 0 {
-        out.extend((0..length).step_by(size).map(|at| at..(at + size).min(length)));
+        out.extend(
+            (0..length)
+                .step_by(size)
+                .map(|at| at..(at + size).min(length)),
+        );
         size /= 2;
     }
     out
@@ -647,7 +712,10 @@ fn lower(kind: Kind, n: u64) -> Vec<u64> {
 }
 
 fn edits(input: &Input) -> Vec<Edit> {
-    let mut out: Vec<Edit> = pieces(input.calls.len()).into_iter().map(Edit::Calls).collect();
+    let mut out: Vec<Edit> = pieces(input.calls.len())
+        .into_iter()
+        .map(Edit::Calls)
+        .collect();
     out.push(Edit::NoCall);
     match &input.job {
         Body::Parsed(job) => edits_of_job(job, &mut out),
@@ -655,7 +723,11 @@ fn edits(input: &Input) -> Vec<Edit> {
     }
     for (i, call) in input.calls.iter().enumerate() {
         if let Call::Check(_, _, segments) = call {
-            out.extend(pieces(segments.len()).into_iter().map(|range| Edit::CheckSegments(i, range)));
+            out.extend(
+                pieces(segments.len())
+                    .into_iter()
+                    .map(|range| Edit::CheckSegments(i, range)),
+            );
         }
     }
     edits_of_numbers(input, &mut out);
@@ -669,8 +741,16 @@ fn edits_of_job(job: &Job, out: &mut Vec<Edit>) {
     out.extend((0..job.registers.len()).map(Edit::Register));
     out.extend((0..job.classes.len()).map(Edit::Class));
     for (i, v) in job.virt_regs.iter().enumerate() {
-        out.extend(pieces(v.hints.len()).into_iter().map(|range| Edit::Hints(i, range)));
-        out.extend(pieces(v.segments.len()).into_iter().map(|range| Edit::Segments(i, range)));
+        out.extend(
+            pieces(v.hints.len())
+                .into_iter()
+                .map(|range| Edit::Hints(i, range)),
+        );
+        out.extend(
+            pieces(v.segments.len())
+                .into_iter()
+                .map(|range| Edit::Segments(i, range)),
+        );
     }
     for (i, class) in job.classes.iter().enumerate() {
         out.extend((0..class.len()).map(|at| Edit::Member(i, at)));
@@ -683,8 +763,11 @@ fn edits_of_job(job: &Job, out: &mut Vec<Edit>) {
 fn edits_of_numbers(input: &Input, out: &mut Vec<Edit>) {
     let mut numbers = Vec::new();
     input.clone().visit(&mut |kind, n| numbers.push((kind, *n)));
-    let mut points: Vec<u64> =
-        numbers.iter().filter(|(kind, _)| matches!(kind, Kind::Point)).map(|(_, n)| *n).collect();
+    let mut points: Vec<u64> = numbers
+        .iter()
+        .filter(|(kind, _)| matches!(kind, Kind::Point))
+        .map(|(_, n)| *n)
+        .collect();
     points.push(0);
     points.sort();
     points.dedup();
@@ -695,7 +778,11 @@ fn edits_of_numbers(input: &Input, out: &mut Vec<Edit>) {
         out.extend(moves.map(|by| Edit::Points(pair[1], by)));
     }
     for (place, (kind, n)) in numbers.into_iter().enumerate() {
-        out.extend(lower(kind, n).into_iter().map(|value| Edit::Number(place, value)));
+        out.extend(
+            lower(kind, n)
+                .into_iter()
+                .map(|value| Edit::Number(place, value)),
+        );
     }
 }
 
@@ -746,7 +833,11 @@ fn apply_to_job(edit: &Edit, body: &mut Body) {
         Edit::Hints(v, range) => {
             let v = &mut job.virt_regs[*v];
             v.hints.drain(range.clone());
-            v.map &= if v.hints.is_empty() { !VirtReg::HINTS } else { !0 };
+            v.map &= if v.hints.is_empty() {
+                !VirtReg::HINTS
+            } else {
+                !0
+            };
         }
         Edit::Segments(v, range) => drop(job.virt_regs[*v].segments.drain(range.clone())),
         Edit::Register(register) => job.drop_register(*register as u64),
@@ -771,8 +862,11 @@ fn shrink_steps(sides: &Sides, mut input: Input) -> io::Result<Input> {
     'next: loop {
         let measure = input.measure();
         for group in edits(&input).chunks(100) {
-            let smaller: Vec<Input> =
-                group.iter().map(|e| apply(e, &input)).filter(|i| i.measure() < measure).collect();
+            let smaller: Vec<Input> = group
+                .iter()
+                .map(|e| apply(e, &input))
+                .filter(|i| i.measure() < measure)
+                .collect();
             let bytes: Vec<Vec<u8>> = smaller.iter().map(Input::write).collect();
             if let Some(found) = sides.first_different(&bytes)? {
                 input = smaller[found].clone();
@@ -787,7 +881,9 @@ fn shrink_steps(sides: &Sides, mut input: Input) -> io::Result<Input> {
 fn shrink(sides: &Sides, bytes: Vec<u8>, is_script: bool) -> io::Result<Vec<u8>> {
     let mut best = bytes;
     loop {
-        let Some(input) = Input::read(&best, is_script) else { return Ok(best) };
+        let Some(input) = Input::read(&best, is_script) else {
+            return Ok(best);
+        };
         let mut input = shrink_steps(sides, input)?;
         input.job = Body::Raw(input.job.write());
         let shrunk = shrink_steps(sides, input)?.write();
@@ -839,7 +935,11 @@ impl Found {
     fn note(&mut self, place: usize, input: &[u8]) {
         self.different += 1;
         self.first = Some(self.first.map_or(place, |first| first.min(place)));
-        if self.shortest.as_ref().is_none_or(|shortest| input.len() < shortest.len()) {
+        if self
+            .shortest
+            .as_ref()
+            .is_none_or(|shortest| input.len() < shortest.len())
+        {
             self.shortest = Some(input.to_vec());
         }
     }
@@ -862,14 +962,28 @@ fn compare_groups(sides: &Sides, source: &Mutex<Source>, found: &Mutex<Found>) -
 }
 
 fn report(sides: &Sides, found: &Found, is_script: bool) -> io::Result<()> {
-    let (Some(first), Some(shortest)) = (found.first, &found.shortest) else { return Ok(()) };
+    let (Some(first), Some(shortest)) = (found.first, &found.shortest) else {
+        return Ok(());
+    };
     println!("first difference at input {first}");
     let smallest = shrink(sides, shortest.clone(), is_script)?;
     println!("smallest input found, {} bytes:", smallest.len());
-    println!("{}", smallest.iter().map(|b| format!("{b:02X}")).collect::<String>());
+    println!(
+        "{}",
+        smallest
+            .iter()
+            .map(|b| format!("{b:02X}"))
+            .collect::<String>()
+    );
     let inputs = [smallest];
-    println!("oracle:\n{}", String::from_utf8_lossy(&sides.oracle(&inputs)?[0]));
-    println!("program:\n{}", String::from_utf8_lossy(&sides.program(&inputs)?[0]));
+    println!(
+        "oracle:\n{}",
+        String::from_utf8_lossy(&sides.oracle(&inputs)?[0])
+    );
+    println!(
+        "program:\n{}",
+        String::from_utf8_lossy(&sides.program(&inputs)?[0])
+    );
     Ok(())
 }
 
@@ -886,7 +1000,9 @@ struct Options {
 
 fn options() -> Option<Options> {
     let words: Vec<String> = std::env::args().skip(1).collect();
-    let [program, form, kind, seed, count, rest @ ..] = words.as_slice() else { return None };
+    let [program, form, kind, seed, count, rest @ ..] = words.as_slice() else {
+        return None;
+    };
     let mut options = Options {
         program: program.split_whitespace().map(String::from).collect(),
         is_script: match form.as_str() {
@@ -912,7 +1028,11 @@ fn options() -> Option<Options> {
             _ => return None,
         }
     }
-    if options.program.is_empty() { None } else { Some(options) }
+    if options.program.is_empty() {
+        None
+    } else {
+        Some(options)
+    }
 }
 
 fn beside(name: &str) -> io::Result<PathBuf> {
@@ -920,15 +1040,28 @@ fn beside(name: &str) -> io::Result<PathBuf> {
 }
 
 fn compare(options: Options) -> io::Result<Found> {
-    let mut generator =
-        Command::new(beside("generate")?).args(&options.generate).stdout(Stdio::piped()).spawn()?;
+    let mut generator = Command::new(beside("generate")?)
+        .args(&options.generate)
+        .stdout(Stdio::piped())
+        .spawn()?;
     let stdout = BufReader::new(generator.stdout.take().expect("piped"));
-    let source = Mutex::new(Source { stdout, next: 0, count: options.count });
-    let mode = if options.is_script { "scripts" } else { "batch" };
+    let source = Mutex::new(Source {
+        stdout,
+        next: 0,
+        count: options.count,
+    });
+    let mode = if options.is_script {
+        "scripts"
+    } else {
+        "batch"
+    };
     let calls = Arc::new(Calls::default());
     let sides = Sides {
         calls: calls.clone(),
-        oracle: vec![beside("oracle")?.to_string_lossy().into_owned(), mode.to_string()],
+        oracle: vec![
+            beside("oracle")?.to_string_lossy().into_owned(),
+            mode.to_string(),
+        ],
         program: options.program,
         in_batches: options.in_batches,
         seconds: options.seconds,
@@ -939,7 +1072,10 @@ fn compare(options: Options) -> io::Result<Found> {
         let workers: Vec<_> = (0..options.threads.max(1))
             .map(|_| scope.spawn(|| compare_groups(&sides, &source, &found)))
             .collect();
-        workers.into_iter().map(|worker| worker.join().expect("a worker does not panic")).collect()
+        workers
+            .into_iter()
+            .map(|worker| worker.join().expect("a worker does not panic"))
+            .collect()
     });
     generator.wait()?;
     results.into_iter().collect::<io::Result<()>>()?;

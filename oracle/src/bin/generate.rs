@@ -24,7 +24,11 @@ impl Rng {
 
     /// A number below `n`, or 0 where there is none.
     fn below(&mut self, n: usize) -> usize {
-        if n == 0 { 0 } else { (self.next() % n as u64) as usize }
+        if n == 0 {
+            0
+        } else {
+            (self.next() % n as u64) as usize
+        }
     }
 
     /// A number from `low` to `high`, both included.
@@ -117,7 +121,11 @@ struct Written {
 
 impl Written {
     fn put(&mut self, field: Field, bytes: &[u8]) {
-        self.marks.push(Mark { field, at: self.bytes.len(), length: bytes.len() });
+        self.marks.push(Mark {
+            field,
+            at: self.bytes.len(),
+            length: bytes.len(),
+        });
         self.bytes.extend_from_slice(bytes);
     }
 
@@ -193,7 +201,9 @@ impl Written {
         out.map(bits);
         if bits & 1 != 0 {
             out.put(Field::Count, &[job.registers.len() as u8]);
-            job.registers.iter().for_each(|r| out.put(Field::Number, &r.to_le_bytes()));
+            job.registers
+                .iter()
+                .for_each(|r| out.put(Field::Number, &r.to_le_bytes()));
         }
         if bits & 2 != 0 {
             out.put(Field::Count, &[job.classes.len() as u8]);
@@ -288,12 +298,17 @@ impl Points {
     /// others.
     fn window(&self, rng: &mut Rng) -> Points {
         let count = rng.between(1, self.count.div_ceil(3));
-        Points { first: self.first + 4 * rng.below(self.count - count + 1) as u32, count }
+        Points {
+            first: self.first + 4 * rng.below(self.count - count + 1) as u32,
+            count,
+        }
     }
 
     /// Between 1 and `most` ranges, sorted and disjoint, some of them touching.
     fn ranges(&self, rng: &mut Rng, most: usize) -> Vec<(u32, u32)> {
-        let mut points: Vec<u32> = (0..2 * rng.between(1, most)).map(|_| self.any(rng)).collect();
+        let mut points: Vec<u32> = (0..2 * rng.between(1, most))
+            .map(|_| self.any(rng))
+            .collect();
         points.sort();
         points.dedup();
         let mut ranges: Vec<(u32, u32)> = points.chunks_exact(2).map(|p| (p[0], p[1])).collect();
@@ -326,7 +341,21 @@ enum Palette {
 }
 
 fn hint_weight(rng: &mut Rng, palette: Palette) -> u32 {
-    let plain = [0.5f32, 1.0, 1.0, 1.0, 2.0, 2.0, 2.5, 3.0, 4.0, 0.1, 0.2, 0.3, 16_777_216.0];
+    let plain = [
+        0.5f32,
+        1.0,
+        1.0,
+        1.0,
+        2.0,
+        2.0,
+        2.5,
+        3.0,
+        4.0,
+        0.1,
+        0.2,
+        0.3,
+        16_777_216.0,
+    ];
     match palette {
         Palette::Equal => 1f32.to_bits(),
         Palette::Heavy if rng.chance(60) => LARGEST - rng.below(2) as u32,
@@ -346,13 +375,19 @@ fn spill_weight(rng: &mut Rng, infinite: usize) -> u32 {
     match rng.below(12) {
         0 | 1 => 0,
         2 => rng.pick(&[1, LARGEST, 0x3F80_0001]),
-        _ => rng.pick(&[0.5f32, 1.0, 1.0, 1.0, 2.0, 2.0, 3.0, 4.0]).to_bits(),
+        _ => rng
+            .pick(&[0.5f32, 1.0, 1.0, 1.0, 2.0, 2.0, 3.0, 4.0])
+            .to_bits(),
     }
 }
 
 /// Leaves a field out where it has its default, mostly.
 fn unless_default<T: PartialEq>(rng: &mut Rng, value: T, default: T) -> Option<T> {
-    if value == default && rng.chance(70) { None } else { Some(value) }
+    if value == default && rng.chance(70) {
+        None
+    } else {
+        Some(value)
+    }
 }
 
 /// Registers with 1 to 4 of the given units, no two with the same ones.
@@ -362,7 +397,11 @@ fn registers(rng: &mut Rng, count: usize, units: &[u8]) -> Vec<u64> {
     // eviction by preference needs.
     let apart = rng.chance(40);
     for _ in 0..4 * count {
-        let size = if apart || rng.chance(30) { 1 } else { rng.between(1, 4) };
+        let size = if apart || rng.chance(30) {
+            1
+        } else {
+            rng.between(1, 4)
+        };
         let map = (0..size).fold(0, |map, _| map | 1u64 << rng.pick(units));
         if registers.len() < count && !registers.contains(&map) {
             registers.push(map);
@@ -396,13 +435,23 @@ fn unit_reservations(rng: &mut Rng, unit: u8, points: Points, most: usize) -> Ve
         let unit = unless_default(rng, unit, 0);
         if rng.chance(70) {
             let from = unless_default(rng, boundary as u32, 0);
-            out.push(Reservation { unit, from, value: Some(value(rng)), ..Default::default() });
+            out.push(Reservation {
+                unit,
+                from,
+                value: Some(value(rng)),
+                ..Default::default()
+            });
             at = boundary + 2;
         } else {
             let from = if at % 4 == 3 { boundary } else { at };
             let from = unless_default(rng, from as u32, 0);
             let to = Some(boundary as u32 + 4);
-            out.push(Reservation { unit, from, to, ..Default::default() });
+            out.push(Reservation {
+                unit,
+                from,
+                to,
+                ..Default::default()
+            });
             at = boundary + 4;
         }
         at += rng.pick(&[0, 0, 1, 4, 8]);
@@ -412,11 +461,20 @@ fn unit_reservations(rng: &mut Rng, unit: u8, points: Points, most: usize) -> Ve
 
 /// Few values, so that those of segments and fixed uses are often equal.
 fn value(rng: &mut Rng) -> u16 {
-    if rng.chance(2) { u16::MAX } else { rng.below(3) as u16 }
+    if rng.chance(2) {
+        u16::MAX
+    } else {
+        rng.below(3) as u16
+    }
 }
 
 /// Reservations of several units, those of each unit in its order.
-fn fixed_reservations(rng: &mut Rng, units: &[u8], points: Points, most: usize) -> Vec<Reservation> {
+fn fixed_reservations(
+    rng: &mut Rng,
+    units: &[u8],
+    points: Points,
+    most: usize,
+) -> Vec<Reservation> {
     let mut by_unit: Vec<Vec<Reservation>> = Vec::new();
     let mut left = most;
     for &unit in units {
@@ -450,8 +508,16 @@ fn segment_value(rng: &mut Rng, fixed: &[Reservation], range: (u32, u32)) -> u16
         .filter(|r| (range.0..range.1).contains(&r.from.unwrap_or(0)))
         .filter_map(|r| r.value)
         .collect();
-    let chosen = if !inside.is_empty() && rng.chance(80) { rng.pick(&inside) } else { value(rng) };
-    if cuts_use(fixed, range, chosen) && !rng.chance(4) { 9 } else { chosen }
+    let chosen = if !inside.is_empty() && rng.chance(80) {
+        rng.pick(&inside)
+    } else {
+        value(rng)
+    };
+    if cuts_use(fixed, range, chosen) && !rng.chance(4) {
+        9
+    } else {
+        chosen
+    }
 }
 
 /// What the virtual registers of a job have in common.
@@ -485,22 +551,43 @@ impl Setting<'_> {
             return None;
         }
         let count = rng.between(1, self.shape.hints);
-        Some((0..count).map(|_| (rng.below(self.registers) as u8, hint_weight(rng, self.palette))).collect())
+        Some(
+            (0..count)
+                .map(|_| {
+                    (
+                        rng.below(self.registers) as u8,
+                        hint_weight(rng, self.palette),
+                    )
+                })
+                .collect(),
+        )
     }
 
     fn virt_reg(&mut self, rng: &mut Rng, number: usize) -> VirtReg {
-        let set = if rng.chance(30) { Some(rng.below(4) as u16) } else { None };
+        let set = if rng.chance(30) {
+            Some(rng.below(4) as u16)
+        } else {
+            None
+        };
         let class = self.class_of(rng, set.unwrap_or(number as u16));
         let spill = spill_weight(rng, self.infinite);
         let size = match rng.below(20) {
             0 => rng.pick(&[(1 << 27) - 2, (1 << 27) - 1, 1 << 27, u32::MAX]),
             _ => rng.below(4) as u32,
         };
-        let points = if rng.chance(self.short) { self.points.window(rng) } else { self.points };
+        let points = if rng.chance(self.short) {
+            self.points.window(rng)
+        } else {
+            self.points
+        };
         let ranges = points.ranges(rng, self.shape.segments);
         let segments = ranges
             .into_iter()
-            .map(|(from, to)| Segment { from, to, value: segment_value(rng, self.fixed, (from, to)) })
+            .map(|(from, to)| Segment {
+                from,
+                to,
+                value: segment_value(rng, self.fixed, (from, to)),
+            })
             .collect();
         VirtReg {
             class: unless_default(rng, class, 0),
@@ -527,9 +614,20 @@ fn unit_pool(rng: &mut Rng, most: usize) -> Vec<u8> {
 /// Points from 0, or now and then the last ones there are.
 fn job_points(rng: &mut Rng, shape: &Shape) -> Points {
     let count = rng.between(2, shape.instructions);
-    let first = if rng.chance(3) { (u32::MAX - 3) - 4 * (count as u32 - 1) } else { 0 };
+    let first = if rng.chance(3) {
+        (u32::MAX - 3) - 4 * (count as u32 - 1)
+    } else {
+        0
+    };
     // The end of a def must be a point too, so the last instruction is spared.
-    if first == 0 { Points { first, count } } else { Points { first, count: count - 1 } }
+    if first == 0 {
+        Points { first, count }
+    } else {
+        Points {
+            first,
+            count: count - 1,
+        }
+    }
 }
 
 fn job_budget(rng: &mut Rng) -> Option<u32> {
@@ -549,7 +647,9 @@ fn valid(rng: &mut Rng, shape: &Shape) -> Job {
     };
     let registers = registers(rng, register_count, &units);
     let class_count = rng.between(1, shape.classes);
-    let classes: Vec<Vec<u8>> = (0..class_count).map(|_| class(rng, registers.len())).collect();
+    let classes: Vec<Vec<u8>> = (0..class_count)
+        .map(|_| class(rng, registers.len()))
+        .collect();
     let points = job_points(rng, shape);
     let fixed = match rng.chance(70) {
         true => fixed_reservations(rng, &units, points, shape.fixed),
@@ -561,17 +661,44 @@ fn valid(rng: &mut Rng, shape: &Shape) -> Job {
         classes: classes.len(),
         registers: registers.len(),
         fixed: &fixed,
-        palette: rng.pick(&[Palette::Mixed, Palette::Mixed, Palette::Equal, Palette::Heavy]),
+        palette: rng.pick(&[
+            Palette::Mixed,
+            Palette::Mixed,
+            Palette::Equal,
+            Palette::Heavy,
+        ]),
         short: rng.pick(&[0, 60, 90]),
         infinite: rng.pick(&[0, 0, 10, 30]),
         set_classes: Vec::new(),
     };
-    let count = if rng.chance(2) { 0 } else { rng.between(1, shape.virt_regs) };
-    let virt_regs = (0..count).map(|number| setting.virt_reg(rng, number)).collect();
-    let probe = if rng.chance(40) { Some(points.range(rng)) } else { None };
-    let extra_bits = if rng.chance(10) { rng.below(16) as u8 } else { 0 };
+    let count = if rng.chance(2) {
+        0
+    } else {
+        rng.between(1, shape.virt_regs)
+    };
+    let virt_regs = (0..count)
+        .map(|number| setting.virt_reg(rng, number))
+        .collect();
+    let probe = if rng.chance(40) {
+        Some(points.range(rng))
+    } else {
+        None
+    };
+    let extra_bits = if rng.chance(10) {
+        rng.below(16) as u8
+    } else {
+        0
+    };
     let budget = job_budget(rng);
-    Job { registers, classes, fixed, virt_regs, probe, budget, extra_bits }
+    Job {
+        registers,
+        classes,
+        fixed,
+        virt_regs,
+        probe,
+        budget,
+        extra_bits,
+    }
 }
 
 // ---------------------------------------------------------------------------
@@ -587,19 +714,36 @@ fn large(rng: &mut Rng) -> Job {
         registers.push(0b11 << (2 * r));
     }
     let class_of = |keep: fn(usize) -> bool, rng: &mut Rng| {
-        let mut class: Vec<u8> = (0..registers.len()).filter(|r| keep(*r)).map(|r| r as u8).collect();
+        let mut class: Vec<u8> = (0..registers.len())
+            .filter(|r| keep(*r))
+            .map(|r| r as u8)
+            .collect();
         rng.shuffle(&mut class);
         class
     };
     let singles: Vec<u8> = (0..register_count as u8).collect();
-    let classes = vec![singles, class_of(|r| r % 2 == 0, rng), class_of(|_| true, rng)];
+    let classes = vec![
+        singles,
+        class_of(|r| r % 2 == 0, rng),
+        class_of(|_| true, rng),
+    ];
     let instructions = rng.pick(&[200, 400, 800]);
-    let points = Points { first: 0, count: instructions };
+    let points = Points {
+        first: 0,
+        count: instructions,
+    };
     let units: Vec<u8> = (0..register_count as u8).collect();
     let fixed = large_fixed(rng, &units, points);
-    let virt_regs =
-        (0..512).map(|number| large_virt_reg(rng, number, points, &fixed, registers.len())).collect();
-    Job { registers, classes, fixed, virt_regs, ..Default::default() }
+    let virt_regs = (0..512)
+        .map(|number| large_virt_reg(rng, number, points, &fixed, registers.len()))
+        .collect();
+    Job {
+        registers,
+        classes,
+        fixed,
+        virt_regs,
+        ..Default::default()
+    }
 }
 
 /// Fixed uses and defs here and there, one or two calls' worth for each unit.
@@ -612,9 +756,19 @@ fn large_fixed(rng: &mut Rng, units: &[u8], points: Points) -> Vec<Reservation> 
             let from = Some(at);
             if rng.chance(60) {
                 let value = Some(rng.below(64) as u16);
-                fixed.push(Reservation { unit, from, value, ..Default::default() });
+                fixed.push(Reservation {
+                    unit,
+                    from,
+                    value,
+                    ..Default::default()
+                });
             } else {
-                fixed.push(Reservation { unit, from, to: Some(at + 4), ..Default::default() });
+                fixed.push(Reservation {
+                    unit,
+                    from,
+                    to: Some(at + 4),
+                    ..Default::default()
+                });
             }
             at += 4 * rng.between(1, points.count / 2) as u32;
         }
@@ -635,7 +789,10 @@ fn large_virt_reg(
         _ => rng.between(1, 12),
     };
     let start = rng.below(points.count - instructions) as u32;
-    let range = (4 * start + rng.pick(&[0, 2]), 4 * (start + instructions as u32));
+    let range = (
+        4 * start + rng.pick(&[0, 2]),
+        4 * (start + instructions as u32),
+    );
     let value = match rng.chance(50) {
         true => segment_value(rng, fixed, range),
         false => rng.below(64) as u16,
@@ -643,23 +800,44 @@ fn large_virt_reg(
     let hints = match rng.chance(40) {
         true => Some(
             (0..rng.between(1, 3))
-                .map(|_| (rng.below(registers) as u8, (0.5 * rng.between(1, 40) as f32).to_bits()))
+                .map(|_| {
+                    (
+                        rng.below(registers) as u8,
+                        (0.5 * rng.between(1, 40) as f32).to_bits(),
+                    )
+                })
                 .collect(),
         ),
         false => None,
     };
     // The first three numbers' own sets are those that each class shares.
-    let class = if number < 3 { number as u8 } else { rng.pick(&[0, 0, 1, 2]) };
-    let set = if rng.chance(20) { Some(class as u16) } else { None };
+    let class = if number < 3 {
+        number as u8
+    } else {
+        rng.pick(&[0, 0, 1, 2])
+    };
+    let set = if rng.chance(20) {
+        Some(class as u16)
+    } else {
+        None
+    };
     let short = instructions == 1 && rng.chance(20);
-    let spill = if short { INFINITE } else { (rng.between(1, 400) as f32 / instructions as f32).to_bits() };
+    let spill = if short {
+        INFINITE
+    } else {
+        (rng.between(1, 400) as f32 / instructions as f32).to_bits()
+    };
     VirtReg {
         class: unless_default(rng, class, 0),
         set,
         spill: Some(spill),
         size: Some(instructions as u32),
         hints,
-        segments: Some(vec![Segment { from: range.0, to: range.1, value }]),
+        segments: Some(vec![Segment {
+            from: range.0,
+            to: range.1,
+            value,
+        }]),
         stray_bits: 0,
     }
 }
@@ -670,7 +848,11 @@ fn large_virt_reg(
 
 /// A job of one register, one class and nothing else.
 fn bare() -> Job {
-    Job { registers: vec![1], classes: vec![vec![0]], ..Default::default() }
+    Job {
+        registers: vec![1],
+        classes: vec![vec![0]],
+        ..Default::default()
+    }
 }
 
 /// Virtual registers that share `segments` segments as evenly as can be.
@@ -680,9 +862,17 @@ fn spread_segments(count: usize, segments: usize) -> Vec<VirtReg> {
             let own = segments / count + (v < segments % count) as usize;
             let segments = (0..own)
                 .map(|s| 8 * s as u32)
-                .map(|at| Segment { from: at, to: at + 4, value: v as u16 })
+                .map(|at| Segment {
+                    from: at,
+                    to: at + 4,
+                    value: v as u16,
+                })
                 .collect();
-            VirtReg { segments: Some(segments), size: Some(v as u32 / 3), ..Default::default() }
+            VirtReg {
+                segments: Some(segments),
+                size: Some(v as u32 / 3),
+                ..Default::default()
+            }
         })
         .collect()
 }
@@ -691,7 +881,9 @@ fn spread_hints(rng: &mut Rng, virt_regs: &mut [VirtReg], hints: usize, register
     let count = virt_regs.len();
     for (v, virt_reg) in virt_regs.iter_mut().enumerate() {
         let own = hints / count + (v < hints % count) as usize;
-        let some = (0..own).map(|_| (rng.below(registers) as u8, hint_weight(rng, Palette::Mixed))).collect();
+        let some = (0..own)
+            .map(|_| (rng.below(registers) as u8, hint_weight(rng, Palette::Mixed)))
+            .collect();
         virt_reg.hints = if own == 0 { None } else { Some(some) };
     }
 }
@@ -714,8 +906,16 @@ fn spread_fixed(count: usize, units: usize) -> Vec<Reservation> {
 
 /// Every table at its limit at once: the longest job without a refusal.
 fn everything(rng: &mut Rng) -> Job {
-    let registers: Vec<u64> = (0..64).map(|r| 1u64 << r | 1u64 << ((r + 1) % 64)).collect();
-    let classes = (0..16).map(|_| { let mut c: Vec<u8> = (0..64).collect(); rng.shuffle(&mut c); c }).collect();
+    let registers: Vec<u64> = (0..64)
+        .map(|r| 1u64 << r | 1u64 << ((r + 1) % 64))
+        .collect();
+    let classes = (0..16)
+        .map(|_| {
+            let mut c: Vec<u8> = (0..64).collect();
+            rng.shuffle(&mut c);
+            c
+        })
+        .collect();
     let mut virt_regs = spread_segments(512, 512);
     spread_hints(rng, &mut virt_regs, 1024, 64);
     for (v, virt_reg) in virt_regs.iter_mut().enumerate() {
@@ -724,7 +924,15 @@ fn everything(rng: &mut Rng) -> Job {
         virt_reg.spill = Some(spill_weight(rng, 0));
     }
     let fixed = spread_fixed(512, 64);
-    Job { registers, classes, fixed, virt_regs, probe: Some((4, 8)), budget: Some(5_000), extra_bits: 0 }
+    Job {
+        registers,
+        classes,
+        fixed,
+        virt_regs,
+        probe: Some((4, 8)),
+        budget: Some(5_000),
+        extra_bits: 0,
+    }
 }
 
 const LIMITS: usize = 22;
@@ -733,7 +941,11 @@ const LIMITS: usize = 22;
 fn limit(rng: &mut Rng, which: usize, over: usize) -> Job {
     let mut job = bare();
     match which {
-        0 => job.registers = (0..64 + over).map(|r| if r < 64 { 1u64 << r } else { 3 }).collect(),
+        0 => {
+            job.registers = (0..64 + over)
+                .map(|r| if r < 64 { 1u64 << r } else { 3 })
+                .collect()
+        }
         1 => job.registers = vec![[0xF, 0x1F][over] << rng.below(60), 1 << rng.below(4)],
         2 => job.registers = vec![[1u64 << 63, 0][over]],
         3 => job.classes = vec![vec![0]; 16 + over],
@@ -746,7 +958,13 @@ fn limit(rng: &mut Rng, which: usize, over: usize) -> Job {
             job.classes = vec![vec![63 + over as u8]];
         }
         6 => job.fixed = spread_fixed(512 + over, rng.pick(&[1, 3, 64])),
-        7 => job.fixed = vec![Reservation { unit: Some(63 + over as u8), value: Some(0), ..Default::default() }],
+        7 => {
+            job.fixed = vec![Reservation {
+                unit: Some(63 + over as u8),
+                value: Some(0),
+                ..Default::default()
+            }]
+        }
         8 => job.virt_regs = spread_segments(512 + over, 512 + over),
         _ => limit_of_virt_regs(rng, which, over, &mut job),
     }
@@ -780,7 +998,8 @@ fn limit_of_virt_regs(rng: &mut Rng, which: usize, over: usize, job: &mut Job) {
         }
         15 => {
             job.registers = (0..64).map(|r| 1u64 << r).collect();
-            job.virt_regs[0].hints = Some(vec![(63 + over as u8, hint_weight(rng, Palette::Mixed))]);
+            job.virt_regs[0].hints =
+                Some(vec![(63 + over as u8, hint_weight(rng, Palette::Mixed))]);
         }
         16 => limit_of_sizes(rng, job),
         17 => limit_of_points(rng, over, job),
@@ -798,7 +1017,13 @@ fn limit_of_virt_regs(rng: &mut Rng, which: usize, over: usize, job: &mut Job) {
 fn limit_of_sizes(rng: &mut Rng, job: &mut Job) {
     job.virt_regs = spread_segments(4, 4);
     for virt_reg in &mut job.virt_regs {
-        virt_reg.size = Some(rng.pick(&[(1 << 27) - 2, (1 << 27) - 1, 1 << 27, (1 << 27) + 1, u32::MAX]));
+        virt_reg.size = Some(rng.pick(&[
+            (1 << 27) - 2,
+            (1 << 27) - 1,
+            1 << 27,
+            (1 << 27) + 1,
+            u32::MAX,
+        ]));
         virt_reg.spill = Some(spill_weight(rng, 0));
     }
     if rng.chance(50) {
@@ -810,9 +1035,17 @@ fn limit_of_sizes(rng: &mut Rng, job: &mut Job) {
 fn limit_of_points(rng: &mut Rng, over: usize, job: &mut Job) {
     let last = u32::MAX - 1 + over as u32;
     job.probe = Some((last - 2, last));
-    job.virt_regs[0].segments = Some(vec![Segment { from: last - 2 - over as u32, to: last, value: 1 }]);
+    job.virt_regs[0].segments = Some(vec![Segment {
+        from: last - 2 - over as u32,
+        to: last,
+        value: 1,
+    }]);
     let value = Some(rng.below(3) as u16);
-    job.fixed = vec![Reservation { from: Some(u32::MAX - 3 + over as u32), value, ..Default::default() }];
+    job.fixed = vec![Reservation {
+        from: Some(u32::MAX - 3 + over as u32),
+        value,
+        ..Default::default()
+    }];
     match rng.below(3) {
         0 => job.fixed.clear(),
         1 => job.probe = None,
@@ -862,13 +1095,23 @@ fn a_reservation<'a>(rng: &mut Rng, job: &'a mut Job) -> Option<&'a mut Reservat
 
 /// A hint of a virtual register, which gets one if it has none.
 fn a_hint<'a>(rng: &mut Rng, job: &'a mut Job) -> Option<&'a mut (u8, u32)> {
-    let hints = a_virt_reg(rng, job)?.hints.get_or_insert_with(|| vec![(0, 0)]);
+    let hints = a_virt_reg(rng, job)?
+        .hints
+        .get_or_insert_with(|| vec![(0, 0)]);
     let at = rng.below(hints.len());
     hints.get_mut(at)
 }
 
 fn bad_weight(rng: &mut Rng) -> u32 {
-    rng.pick(&[0x8000_0000, 0xBF80_0000, 0x7F80_0001, 0x7FC0_0000, 0xFFFF_FFFF, 0xFF80_0000, INFINITE])
+    rng.pick(&[
+        0x8000_0000,
+        0xBF80_0000,
+        0x7F80_0001,
+        0x7FC0_0000,
+        0xFFFF_FFFF,
+        0xFF80_0000,
+        INFINITE,
+    ])
 }
 
 /// Numbers just above the limits, and the greatest.
@@ -885,7 +1128,11 @@ fn damage_map(rng: &mut Rng, job: &mut Job) -> Option<()> {
         _ => {
             let both = rng.chance(50);
             let r = a_reservation(rng, job)?;
-            (r.to, r.value) = if both { (Some(r.from?.wrapping_add(4)), Some(1)) } else { (None, None) };
+            (r.to, r.value) = if both {
+                (Some(r.from?.wrapping_add(4)), Some(1))
+            } else {
+                (None, None)
+            };
         }
     }
     Some(())
@@ -908,7 +1155,11 @@ fn damage_sizes(rng: &mut Rng, job: &mut Job) -> Option<()> {
             let r = a_reservation(rng, job)?;
             (r.to, r.value) = (r.from, None);
         }
-        _ => job.probe = job.probe.map(|(from, to)| if from % 2 == 0 { (to, from) } else { (to, to) }),
+        _ => {
+            job.probe = job
+                .probe
+                .map(|(from, to)| if from % 2 == 0 { (to, from) } else { (to, to) })
+        }
     }
     Some(())
 }
@@ -920,7 +1171,11 @@ fn damage_points(rng: &mut Rng, job: &mut Job) -> Option<()> {
         0 => a_segment(rng, job)?.to |= 3,
         1 => a_segment(rng, job)?.from |= 3,
         2 => job.probe = job.probe.map(|(from, to)| (from, to | 3)),
-        3 => job.probe = job.probe.map(|(from, to)| (from | 3, to.max(from | 3).saturating_add(1))),
+        3 => {
+            job.probe = job
+                .probe
+                .map(|(from, to)| (from | 3, to.max(from | 3).saturating_add(1)))
+        }
         _ => {
             let r = a_reservation(rng, job)?;
             match &mut r.to {
@@ -937,7 +1192,11 @@ fn damage_order(rng: &mut Rng, job: &mut Job) -> Option<()> {
     if rng.chance(50) {
         let segments = a_virt_reg(rng, job)?.segments.as_mut()?;
         let again = *segments.last()?;
-        if segments.len() > 1 && rng.chance(60) { segments.swap(0, 1) } else { segments.push(again) }
+        if segments.len() > 1 && rng.chance(60) {
+            segments.swap(0, 1)
+        } else {
+            segments.push(again)
+        }
     } else if job.fixed.len() > 1 && rng.chance(50) {
         let at = rng.below(job.fixed.len() - 1);
         job.fixed.swap(at, at + 1);
@@ -986,11 +1245,24 @@ fn damage_whole(rng: &mut Rng, job: &mut Job) -> Option<()> {
             job.virt_regs[last + 1].set = Some(set);
         }
         _ => {
-            let uses: Vec<Reservation> = job.fixed.iter().filter(|r| r.value.is_some()).copied().collect();
+            let uses: Vec<Reservation> = job
+                .fixed
+                .iter()
+                .filter(|r| r.value.is_some())
+                .copied()
+                .collect();
             let cut = *uses.get(rng.below(uses.len()))?;
             let at = cut.from.unwrap_or(0).checked_add(1)?;
-            let range = if rng.chance(50) { (at, at.checked_add(7)?) } else { (at - 1, at) };
-            let segment = Segment { from: range.0, to: range.1, value: cut.value? };
+            let range = if rng.chance(50) {
+                (at, at.checked_add(7)?)
+            } else {
+                (at - 1, at)
+            };
+            let segment = Segment {
+                from: range.0,
+                to: range.1,
+                value: cut.value?,
+            };
             a_virt_reg(rng, job)?.segments = Some(vec![segment]);
         }
     }
@@ -1010,7 +1282,13 @@ fn damage_one_field(rng: &mut Rng, job: &mut Job) -> Option<()> {
             let (from, to, unit) = (odd(rng), odd(rng), unknown(rng, 63));
             let stray_bits = rng.pick(&[0, 0, 0x10]);
             let r = a_reservation(rng, job)?;
-            *r = Reservation { unit: Some(unit), from: Some(from), to: r.to.map(|_| to), value: r.value, stray_bits };
+            *r = Reservation {
+                unit: Some(unit),
+                from: Some(from),
+                to: r.to.map(|_| to),
+                value: r.value,
+                stray_bits,
+            };
         }
         _ => *a_hint(rng, job)? = (unknown(rng, 0), bad_weight(rng)),
     }
@@ -1033,17 +1311,39 @@ fn damage_job(rng: &mut Rng, job: &mut Job) {
 }
 
 fn a_mark(rng: &mut Rng, written: &Written, field: Field) -> Option<Mark> {
-    let marks: Vec<Mark> = written.marks.iter().filter(|m| m.field == field).copied().collect();
-    if marks.is_empty() { None } else { Some(rng.pick(&marks)) }
+    let marks: Vec<Mark> = written
+        .marks
+        .iter()
+        .filter(|m| m.field == field)
+        .copied()
+        .collect();
+    if marks.is_empty() {
+        None
+    } else {
+        Some(rng.pick(&marks))
+    }
 }
 
 fn change_count(rng: &mut Rng, written: &mut Written) -> Option<()> {
     let mark = a_mark(rng, written, Field::Count)?;
     let low = written.bytes[mark.at];
-    let (limit, limit_high) = if mark.length == 1 { (rng.pick(&[17, 65]), 0) } else { (1, 2) };
-    (written.bytes[mark.at], written.bytes[mark.at + mark.length - 1]) = match rng.below(5) {
-        0 => (low.wrapping_add(1), written.bytes[mark.at + mark.length - 1]),
-        1 => (low.saturating_sub(1), written.bytes[mark.at + mark.length - 1]),
+    let (limit, limit_high) = if mark.length == 1 {
+        (rng.pick(&[17, 65]), 0)
+    } else {
+        (1, 2)
+    };
+    (
+        written.bytes[mark.at],
+        written.bytes[mark.at + mark.length - 1],
+    ) = match rng.below(5) {
+        0 => (
+            low.wrapping_add(1),
+            written.bytes[mark.at + mark.length - 1],
+        ),
+        1 => (
+            low.saturating_sub(1),
+            written.bytes[mark.at + mark.length - 1],
+        ),
         2 => (0, 0),
         3 => (255, 255),
         _ => (limit, limit_high),
@@ -1059,7 +1359,9 @@ fn damage_bytes(rng: &mut Rng, written: &mut Written) -> Option<()> {
     let length = written.bytes.len();
     match rng.below(9) {
         0 | 1 => written.bytes.truncate(rng.below(length)),
-        2 => written.bytes.extend((0..rng.between(1, 3)).map(|_| rng.below(256) as u8)),
+        2 => written
+            .bytes
+            .extend((0..rng.between(1, 3)).map(|_| rng.below(256) as u8)),
         3 | 4 => change_count(rng, written)?,
         5 => {
             let mark = a_mark(rng, written, Field::Map)?;
@@ -1110,11 +1412,24 @@ fn damaged(rng: &mut Rng) -> Vec<u8> {
 fn nameable(rng: &mut Rng, job: &Job, number: usize) -> Option<u8> {
     let virt_reg = job.virt_regs.get(number)?;
     let set_of = |v: usize| job.virt_regs[v].set.unwrap_or(v as u16);
-    let mut names: Vec<u8> = job.classes.get(virt_reg.class.unwrap_or(0) as usize)?.clone();
+    let mut names: Vec<u8> = job
+        .classes
+        .get(virt_reg.class.unwrap_or(0) as usize)?
+        .clone();
     for v in (0..job.virt_regs.len()).filter(|v| set_of(*v) == set_of(number)) {
-        names.extend(job.virt_regs[v].hints.iter().flatten().map(|(register, _)| *register));
+        names.extend(
+            job.virt_regs[v]
+                .hints
+                .iter()
+                .flatten()
+                .map(|(register, _)| *register),
+        );
     }
-    if names.is_empty() { None } else { Some(rng.pick(&names)) }
+    if names.is_empty() {
+        None
+    } else {
+        Some(rng.pick(&names))
+    }
 }
 
 /// Which numbers hold a register, as far as the calls so far tell: a guess,
@@ -1127,7 +1442,11 @@ fn a_number(rng: &mut Rng, guess: &Guess, holds: bool) -> usize {
         return rng.pick(&[guess.len(), 511, 512, 65_535]);
     }
     let fit: Vec<usize> = (0..guess.len()).filter(|v| guess[*v] == holds).collect();
-    if fit.is_empty() || rng.chance(15) { rng.below(guess.len()) } else { rng.pick(&fit) }
+    if fit.is_empty() || rng.chance(15) {
+        rng.below(guess.len())
+    } else {
+        rng.pick(&fit)
+    }
 }
 
 fn call_place(rng: &mut Rng, job: &Job, guess: &mut Guess, out: &mut Vec<u8>) {
@@ -1139,7 +1458,11 @@ fn call_place(rng: &mut Rng, job: &Job, guess: &mut Guess, out: &mut Vec<u8>) {
         Some(register) if !rng.chance(4) => register,
         _ => rng.pick(&[0, 1, 3, job.registers.len() as u8, 64, 255]),
     };
-    let weight = if rng.chance(4) { bad_weight(rng) } else { hint_weight(rng, Palette::Mixed) };
+    let weight = if rng.chance(4) {
+        bad_weight(rng)
+    } else {
+        hint_weight(rng, Palette::Mixed)
+    };
     out.push(1);
     out.extend((number as u16).to_le_bytes());
     out.push(register);
@@ -1161,7 +1484,11 @@ fn call_run(rng: &mut Rng, guess: &mut Guess, out: &mut Vec<u8>) {
         _ => rng.below(8) as u32,
     };
     // Each dequeue places one, as long as there is one to place.
-    for holds in guess.iter_mut().filter(|holds| !**holds).take(budget as usize) {
+    for holds in guess
+        .iter_mut()
+        .filter(|holds| !**holds)
+        .take(budget as usize)
+    {
         *holds = true;
     }
     out.push(3);
@@ -1172,14 +1499,28 @@ fn call_run(rng: &mut Rng, guess: &mut Guess, out: &mut Vec<u8>) {
 fn a_point(rng: &mut Rng, job: &Job, points: Points) -> u32 {
     let mut known: Vec<u32> = job.fixed.iter().map(|r| r.from.unwrap_or(0)).collect();
     for virt_reg in &job.virt_regs {
-        known.extend(virt_reg.segments.iter().flatten().flat_map(|s| [s.from, s.to]));
+        known.extend(
+            virt_reg
+                .segments
+                .iter()
+                .flatten()
+                .flat_map(|s| [s.from, s.to]),
+        );
     }
-    if known.is_empty() || rng.chance(50) { points.any(rng) } else { rng.pick(&known) }
+    if known.is_empty() || rng.chance(50) {
+        points.any(rng)
+    } else {
+        rng.pick(&known)
+    }
 }
 
 fn call_check(rng: &mut Rng, job: &Job, points: Points, out: &mut Vec<u8>) {
     let known = job.registers.len();
-    let register = if known == 0 || rng.chance(3) { unknown(rng, known) } else { rng.below(known) as u8 };
+    let register = if known == 0 || rng.chance(3) {
+        unknown(rng, known)
+    } else {
+        rng.below(known) as u8
+    };
     let count = if rng.chance(4) { 0 } else { rng.between(1, 3) };
     let mut ends: Vec<u32> = (0..2 * count).map(|_| a_point(rng, job, points)).collect();
     if !rng.chance(3) {
@@ -1209,7 +1550,11 @@ fn call_check(rng: &mut Rng, job: &Job, points: Points, out: &mut Vec<u8>) {
 fn call_spare(rng: &mut Rng, job: &Job, points: Points, out: &mut Vec<u8>) {
     let units = job.registers.iter().fold(0, |all, r| all | r);
     let own: Vec<u8> = (0..64).filter(|u| units >> u & 1 == 1).collect();
-    let unit = if own.is_empty() || rng.chance(5) { rng.pick(&[0, 7, 63, 64, 255]) } else { rng.pick(&own) };
+    let unit = if own.is_empty() || rng.chance(5) {
+        rng.pick(&[0, 7, 63, 64, 255])
+    } else {
+        rng.pick(&own)
+    };
     let (mut from, mut to) = points.range(rng);
     match rng.below(40) {
         0 => from |= 3,
@@ -1240,17 +1585,30 @@ fn line_up_uses(rng: &mut Rng, job: &mut Job, calls: &mut Vec<u8>) {
     (job.registers, job.classes) = (vec![1, 2], vec![vec![0, 1]]);
     let to = rng.pick(&[6, 10, 14]);
     job.fixed.clear();
-    for from in [0, 4, 8, 12, 16].into_iter().filter(|_| rng.chance(70)).collect::<Vec<u32>>() {
+    for from in [0, 4, 8, 12, 16]
+        .into_iter()
+        .filter(|_| rng.chance(70))
+        .collect::<Vec<u32>>()
+    {
         let value = if from < to { 1 } else { rng.below(3) as u16 };
-        job.fixed.push(Reservation { from: Some(from), value: Some(value), ..Default::default() });
+        job.fixed.push(Reservation {
+            from: Some(from),
+            value: Some(value),
+            ..Default::default()
+        });
     }
     job.virt_regs.truncate(3);
-    job.virt_regs.resize(job.virt_regs.len().max(1), VirtReg::default());
+    job.virt_regs
+        .resize(job.virt_regs.len().max(1), VirtReg::default());
     for v in &mut job.virt_regs {
         (v.class, v.hints) = (None, None);
         v.segments.iter_mut().flatten().for_each(|s| s.value = 9);
     }
-    job.virt_regs[0].segments = Some(vec![Segment { from: 0, to, value: 1 }]);
+    job.virt_regs[0].segments = Some(vec![Segment {
+        from: 0,
+        to,
+        value: 1,
+    }]);
 }
 
 fn script(rng: &mut Rng, shape: &Shape) -> Vec<u8> {
@@ -1261,7 +1619,10 @@ fn script(rng: &mut Rng, shape: &Shape) -> Vec<u8> {
         2..=21 => line_up_uses(rng, &mut job, &mut calls),
         _ => {}
     }
-    let points = Points { first: 0, count: shape.instructions };
+    let points = Points {
+        first: 0,
+        count: shape.instructions,
+    };
     let mut guess = vec![false; job.virt_regs.len()];
     for _ in 0..rng.between(1, 12) {
         match rng.below(20) {
@@ -1288,7 +1649,15 @@ fn script(rng: &mut Rng, shape: &Shape) -> Vec<u8> {
 // The command
 // ---------------------------------------------------------------------------
 
-const KINDS: [&str; 7] = ["small", "tiny", "limits", "large", "damaged", "scripts", "tiny-scripts"];
+const KINDS: [&str; 7] = [
+    "small",
+    "tiny",
+    "limits",
+    "large",
+    "damaged",
+    "scripts",
+    "tiny-scripts",
+];
 
 fn input(kind: usize, seed: u64, index: usize) -> Vec<u8> {
     // Three draws set kinds, seeds and places far apart from each other.
@@ -1309,14 +1678,19 @@ fn input(kind: usize, seed: u64, index: usize) -> Vec<u8> {
 
 fn arguments() -> Option<(usize, u64, usize)> {
     let words: Vec<String> = std::env::args().skip(1).collect();
-    let [kind, seed, count] = words.as_slice() else { return None };
+    let [kind, seed, count] = words.as_slice() else {
+        return None;
+    };
     let kind = KINDS.iter().position(|k| k == kind)?;
     Some((kind, seed.parse().ok()?, count.parse().ok()?))
 }
 
 fn main() -> io::Result<()> {
     let Some((kind, seed, count)) = arguments() else {
-        eprintln!("usage: generate KIND SEED COUNT, where KIND is one of {}", KINDS.join(", "));
+        eprintln!(
+            "usage: generate KIND SEED COUNT, where KIND is one of {}",
+            KINDS.join(", ")
+        );
         std::process::exit(2);
     };
     let mut out = BufWriter::new(io::stdout().lock());
