@@ -536,7 +536,45 @@ struct Setting<'a> {
     set_classes: Vec<(u16, u8)>,
 }
 
-impl Setting<'_> {
+impl<'a> Setting<'a> {
+    fn new(
+        rng: &mut Rng,
+        shape: &'a Shape,
+        points: Points,
+        (classes, registers): (usize, usize),
+        fixed: &'a [Reservation],
+    ) -> Self {
+        let palettes = [
+            Palette::Mixed,
+            Palette::Mixed,
+            Palette::Equal,
+            Palette::Heavy,
+        ];
+        Setting {
+            shape,
+            points,
+            classes,
+            registers,
+            fixed,
+            palette: rng.pick(&palettes),
+            short: rng.pick(&[0, 60, 90]),
+            infinite: rng.pick(&[0, 0, 10, 30]),
+            set_classes: Vec::new(),
+        }
+    }
+
+    fn virt_regs(&mut self, rng: &mut Rng) -> Vec<VirtReg> {
+        let none = rng.chance(2);
+        let count = if none {
+            0
+        } else {
+            rng.between(1, self.shape.virt_regs)
+        };
+        (0..count)
+            .map(|number| self.virt_reg(rng, number))
+            .collect()
+    }
+
     fn class_of(&mut self, rng: &mut Rng, set: u16) -> u8 {
         if let Some((_, class)) = self.set_classes.iter().find(|(s, _)| *s == set) {
             return *class;
@@ -655,30 +693,8 @@ fn valid(rng: &mut Rng, shape: &Shape) -> Job {
         true => fixed_reservations(rng, &units, points, shape.fixed),
         false => Vec::new(),
     };
-    let mut setting = Setting {
-        shape,
-        points,
-        classes: classes.len(),
-        registers: registers.len(),
-        fixed: &fixed,
-        palette: rng.pick(&[
-            Palette::Mixed,
-            Palette::Mixed,
-            Palette::Equal,
-            Palette::Heavy,
-        ]),
-        short: rng.pick(&[0, 60, 90]),
-        infinite: rng.pick(&[0, 0, 10, 30]),
-        set_classes: Vec::new(),
-    };
-    let count = if rng.chance(2) {
-        0
-    } else {
-        rng.between(1, shape.virt_regs)
-    };
-    let virt_regs = (0..count)
-        .map(|number| setting.virt_reg(rng, number))
-        .collect();
+    let counts = (classes.len(), registers.len());
+    let virt_regs = Setting::new(rng, shape, points, counts, &fixed).virt_regs(rng);
     let probe = if rng.chance(40) {
         Some(points.range(rng))
     } else {
@@ -776,6 +792,18 @@ fn large_fixed(rng: &mut Rng, units: &[u8], points: Points) -> Vec<Reservation> 
     fixed
 }
 
+fn large_hints(rng: &mut Rng, registers: usize) -> Option<Vec<(u8, u32)>> {
+    if !rng.chance(40) {
+        return None;
+    }
+    let count = rng.between(1, 3);
+    let hint = |_| {
+        let register = rng.below(registers) as u8;
+        (register, (0.5 * rng.between(1, 40) as f32).to_bits())
+    };
+    Some((0..count).map(hint).collect())
+}
+
 fn large_virt_reg(
     rng: &mut Rng,
     number: usize,
@@ -797,19 +825,7 @@ fn large_virt_reg(
         true => segment_value(rng, fixed, range),
         false => rng.below(64) as u16,
     };
-    let hints = match rng.chance(40) {
-        true => Some(
-            (0..rng.between(1, 3))
-                .map(|_| {
-                    (
-                        rng.below(registers) as u8,
-                        (0.5 * rng.between(1, 40) as f32).to_bits(),
-                    )
-                })
-                .collect(),
-        ),
-        false => None,
-    };
+    let hints = large_hints(rng, registers);
     // The first three numbers' own sets are those that each class shares.
     let class = if number < 3 {
         number as u8
