@@ -427,6 +427,20 @@ cases =
       calls = place 0 0 0x00000000 ∷ checks false 0 (seg 5 9 3 ∷ []) ∷ evict 0 ∷ checks false 0 (seg 4 9 1 ∷ seg 9 12 3 ∷ []) ∷ checks true 0 (seg 4 9 1 ∷ seg 9 12 3 ∷ []) ∷ checks true 1 [] ∷ checks true 0 [] ∷ checks true 0 (seg 4 7 1 ∷ []) ∷ checks true 0 (seg 4 8 1 ∷ seg 6 12 1 ∷ []) ∷ asksSpare 64 (seg 8 8 0) ∷ asksSpare 63 (seg 8 8 0) ∷ asksSpare 0 (seg 4 7 0) ∷ asksSpare 0 (seg 4 8 0) ∷ asksSpare 0 (seg 4 6 0) ∷ asksSpare 0 (seg 10 14 0) ∷ [];
       shows = "ok" ∷ "s 0 assigned 0 0 0" ∷ "q" ∷ "l 0:0" ∷ "u 0 4 12 held 0 0" ∷ "u 0 16 18 use 2" ∷ "check" ∷ "r 0 0 5 9 v 0" ∷ "r 0 0 8 10 fixed" ∷ "ok" ∷ "s 0 unassigned 0" ∷ "q 9223372036854775808" ∷ "l 0:0" ∷ "u 0 8 10 use 1" ∷ "u 0 16 18 use 2" ∷ "check" ∷ "check" ∷ "r 0 1 9 10 fixed" ∷ "refused 8" ∷ "refused 5" ∷ "refused 6" ∷ "refused 7" ∷ "refused 8" ∷ "refused 5" ∷ "refused 6" ∷ "busy" ∷ "spare" ∷ "spare" ∷ [];
     }
+    ∷
+    -- Holding after toomany: the number that met it holds nothing
+    record {
+      job = "0B 01 0100000000000000 01 0100 0200 2C 0000807F 0A000000 0100 04000000140000000100 2C 0000807F 05000000 0100 08000000100000000200";
+      calls = run 100 ∷ [];
+      shows = "end toomany 2" ∷ "s 0 assigned 0 0 0" ∷ "s 1 unassigned 0" ∷ "q" ∷ "l 0:0" ∷ "u 0 4 20 held 0 -" ∷ "h 0 0" ∷ [];
+    }
+    ∷
+    -- Holding after refused calls: as before them
+    record {
+      job = "0B 01 0100000000000000 01 0100 0200 2C 0000803F 0A000000 0100 04000000140000000100 2C 00000040 05000000 0100 08000000100000000200";
+      calls = place 0 0 0x00000000 ∷ place 1 0 0x00000000 ∷ evict 1 ∷ [];
+      shows = "ok" ∷ "s 0 assigned 0 0 0" ∷ "s 1 unassigned 0" ∷ "q 9223372058329612289" ∷ "l 0:0" ∷ "u 0 4 20 held 0 -" ∷ "refused 14" ∷ "s 0 assigned 0 0 0" ∷ "s 1 unassigned 0" ∷ "q 9223372058329612289" ∷ "l 0:0" ∷ "u 0 4 20 held 0 -" ∷ "refused 13" ∷ "s 0 assigned 0 0 0" ∷ "s 1 unassigned 0" ∷ "q 9223372058329612289" ∷ "l 0:0" ∷ "u 0 4 20 held 0 -" ∷ "h 0 0" ∷ [];
+    }
     ∷ []
 
 -- every case shows what it should
