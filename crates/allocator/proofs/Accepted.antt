@@ -13,6 +13,7 @@ use Rattle.reg_matrix.specs.Lists.{isNil, isSome}
 use Rattle.reg_matrix.specs.Refusals.{Test, refusal, _if_, shortBuffer}
 use Rattle.job.specs.Model.{Job}
 use Rattle.job.proofs.Premises.{IsNumber, IsReg}
+use Rattle.job.proofs.Weights.{neither}
 use Rattle.allocator.specs.State.{State, heldBy, isUnassigned, checkOf}
 use Rattle.allocator.specs.Layout.{stageLimits}
 use Rattle.allocator.specs.Calls.{placing, evicting, running, unknownNumber, named, badWeight, refusalOf}
@@ -34,10 +35,6 @@ pass-all n false ts t q = q
 no-test : refusal [] ≡ none
 unfolding refusal
 no-test = refl
-
-not-or : (a b : Bool) → T (not (a || b)) → T (not a) × T (not b)
-not-or true b t = absurd t
-not-or false b t = (tt, t)
 
 or-not : (a b : Bool) → T (not a) → T (not b) → T (not (a || b))
 or-not true b s t = absurd s
@@ -87,8 +84,8 @@ placing-accepted j s lent v r w = (out, into)
         let c = all-pass 9 (badWeight w) _ (b .1) in
         let d = all-pass 13 (not (isUnassigned s v)) _ (c .1) in
         let e = all-pass 14 (not (isNil (checkOf j s v r))) _ (d .1) in
-        let f = not-or (unknownNumber j v) unknown (b .0) in
-        let g = not-or (leb (length (j .regs)) r) (not (named j v r)) (f .1) in
+        let f = neither (unknownNumber j v) unknown (b .0) in
+        let g = neither (leb (length (j .regs)) r) (not (named j v r)) (f .1) in
         record {
           lends = a .0;
           known = nleb→lt (length (j .virtRegs)) v (f .0);

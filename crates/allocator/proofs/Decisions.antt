@@ -20,6 +20,7 @@ use Rattle.job.specs.declared.Hint.{Hint}
 use Rattle.job.specs.Model as model
 use Rattle.job.specs.Model.{Job, virtReg, noVirtReg, classOf, zeroWeight}
 use Rattle.job.proofs.Premises.{Premises, IsNumber, Plain}
+use Rattle.job.proofs.Lists.{getD-in}
 use Rattle.allocator.specs.State.{State, CandidateReg, Stage, Evict, Split, flag, lastGiven, checkOf}
 use Rattle.allocator.specs.Order.{candidate, grow, addHint, putBefore, byWeight, hasReg, orLast, hintedOrder, order, highestPreference}
 use Rattle.allocator.specs.Evict.{isFixed, holder, ruledOut, holders, evictees, weights, spillWeight, costOf, allowed, cheaper, Eviction, bestCost, better, tryEvict, preferred}
@@ -29,11 +30,6 @@ use Rattle.allocator.proofs.Agrees.{Candidate}
 use Rattle.allocator.proofs.Weights.{finite-plain, plain-zero, plain-add}
 
 -- ---- lists
-
-pub getD-in : {A : Type 0} (l : List A) (i : ℕ) (d : A) → i < length l → getD l i d ∈ l
-getD-in [] i d h = absurd (omega arith)
-getD-in (x ∷ xs) zero d h = List·Memᴰ·head refl
-getD-in (x ∷ xs) (suc i) d h = List·Memᴰ·tail (getD-in xs i d (omega arith))
 
 first-out : {A : Type 0} (p : A → Bool) (xs : List A) (y : A) → first p xs ≡ some y → (y ∈ xs) × T (p y)
 unfolding first

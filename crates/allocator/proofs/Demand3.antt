@@ -7,9 +7,11 @@ use Prim.Native.Nat.{ℕ}
 use Rattle.reg_matrix.specs.Lines.{tableLines}
 use Rattle.job.specs.Model.{Job}
 use Rattle.job.proofs.Premises.{Premises}
-use Rattle.allocator.specs.Calls.{Call, afterAll}
+use Rattle.job.proofs.Loads.{loads-premises}
+use Rattle.allocator.specs.Layout.{stageLimits}
+use Rattle.allocator.specs.Calls.{load, Call, afterAll}
 use Rattle.allocator.specs.Holding.{holds}
-use Rattle.allocator.specs.Demand.{holdersAfter, placements, TablesAreHolders}
+use Rattle.allocator.specs.Demand.{holdersAfter, placements, TablesAreHolders, Demand3}
 use Rattle.allocator.proofs.Runs.{after-agrees}
 use Rattle.allocator.proofs.Rebuilt.{holders-accepted, same-table}
 use Rattle.allocator.proofs.Shown.{table-shows, holders-decide}
@@ -37,3 +39,8 @@ demand3-premises j p =
     read cs ds =
         same-lines (afterAll j cs .table) (afterAll j ds .table) (entry-short j p (afterAll j cs) (holds j cs) (after-agrees j p cs))
         (entry-short j p (afterAll j ds) (holds j ds) (after-agrees j p ds))
+
+-- of every byte string that loads, whatever was lent
+pub demand3 : Demand3
+unfolding load
+demand3 lent bytes j b e = demand3-premises j (loads-premises stageLimits lent bytes j b e)

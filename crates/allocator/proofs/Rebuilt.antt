@@ -19,6 +19,7 @@ use Rattle.reg_matrix.proofs.Laws.{clear-free, table-decided}
 use Rattle.job.specs.declared.Hint.{Hint}
 use Rattle.job.specs.Model.{VirtReg, Job, virtReg, classOf, segmentsOf, unitMap, zeroWeight}
 use Rattle.job.proofs.Premises.{Premises, IsNumber, IsReg}
+use Rattle.job.proofs.Lists.{getD-in}
 use Rattle.allocator.specs.State.{State, CandidateReg, freshState, heldBy, isLeftOver, isUnassigned, checkOf, give}
 use Rattle.allocator.specs.Order.{candidate}
 use Rattle.allocator.specs.Layout.{stageLimits}
@@ -28,7 +29,7 @@ use Rattle.allocator.specs.Demand.{Holder, asHolder, placeHolder}
 use Rattle.allocator.proofs.Holders.{none-some, but-cases, but-other, cellsOf, OfHolder, cell-in, cell-out, TableOf, free-beside}
 use Rattle.allocator.proofs.Weights.{plain-zero}
 use Rattle.allocator.proofs.Agrees.{regHeld, Waiting, Agrees, holder-known, replicate-default, fresh-agrees, give-agrees, but-none}
-use Rattle.allocator.proofs.Decisions.{getD-in, has-out}
+use Rattle.allocator.proofs.Decisions.{has-out}
 use Rattle.allocator.proofs.Accepted.{Placeable, placing-accepted}
 
 -- ---- a register that class or hints name is one of the job's
