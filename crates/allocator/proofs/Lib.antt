@@ -1,1 +1,13 @@
 pub mod Opened
+pub mod Cases
+pub mod Holders
+pub mod Agrees
+pub mod Weights
+pub mod Decisions
+pub mod Accepted
+pub mod Runs
+pub mod Rebuilt
+pub mod Shown
+pub mod PrintedLines
+pub mod Entries
+pub mod Demand3

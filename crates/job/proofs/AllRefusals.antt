@@ -15,7 +15,7 @@ use Rattle.reg_matrix.specs.declared.Entry.{Entry}
 use Rattle.job.specs.Model.{Job, virtReg}
 use Rattle.job.specs.Layout.{loadLimits}
 use Rattle.job.specs.Load.{Loaded, notLoaded, loaded, loadWith}
-use Rattle.job.proofs.Hex.{wellFormed, hex}
+use Rattle.job.proofs.Hex.{hex, isHex}
 use Rattle.job.proofs.Opened.{opened}
 
 -- ---- rows
@@ -33,7 +33,7 @@ answer f (notLoaded n) = n ∷ []
 answer f (loaded j) = 0 ∷ f j
 
 pub right : Row → Bool
-right r = all wellFormed (r .texts) && same (answer (r .fields) (loadWith loadLimits (r .lent) (concatMap hex (r .texts) ++ r .more))) (r .says)
+right r = all isHex (r .texts) && same (answer (r .fields) (loadWith loadLimits (r .lent) (concatMap hex (r .texts) ++ r .more))) (r .says)
 
 -- with buffers of these sizes lent
 abbrev lending : List ℕ → List String → List ℕ → ℕ → Row
