@@ -7,9 +7,7 @@ use Prim.Native.Nat.{ℕ}
 use Rattle.reg_matrix.specs.Lines.{tableLines}
 use Rattle.job.specs.Model.{Job}
 use Rattle.job.proofs.Premises.{Premises}
-use Rattle.job.proofs.Loads.{loads-premises}
-use Rattle.allocator.specs.Layout.{stageLimits}
-use Rattle.allocator.specs.Calls.{load, Call, afterAll}
+use Rattle.allocator.specs.Calls.{Call, afterAll}
 use Rattle.allocator.specs.Holding.{holds}
 use Rattle.allocator.specs.Demand.{holdersAfter, placements, TablesAreHolders, Demand3}
 use Rattle.allocator.proofs.Runs.{after-agrees}
@@ -17,6 +15,7 @@ use Rattle.allocator.proofs.Rebuilt.{holders-accepted, same-table}
 use Rattle.allocator.proofs.Shown.{table-shows, holders-decide}
 use Rattle.allocator.proofs.PrintedLines.{same-lines}
 use Rattle.allocator.proofs.Entries.{entry-short}
+use Rattle.allocator.proofs.Loading.{stage-premises}
 
 -- of every job with what loading tested
 pub demand3-premises : (j : Job) → Premises j → TablesAreHolders j
@@ -42,5 +41,4 @@ demand3-premises j p =
 
 -- of every byte string that loads, whatever was lent
 pub demand3 : Demand3
-unfolding load
-demand3 lent bytes j b e = demand3-premises j (loads-premises stageLimits lent bytes j b e)
+demand3 lent bytes j b e = demand3-premises j (stage-premises lent bytes j b e)
