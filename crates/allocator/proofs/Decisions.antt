@@ -115,7 +115,7 @@ module _ (j : Job) (v : ℕ) where
   abbrev GoodReg : ℕ → Type 0
   GoodReg r = T (named j v r)
 
-  candidates-out : (cs : List CandidateReg) → Candidates cs → (c : CandidateReg) → c ∈ cs → Candidate j v c
+  pub candidates-out : (cs : List CandidateReg) → Candidates cs → (c : CandidateReg) → c ∈ cs → Candidate j v c
   candidates-out (x ∷ xs) a c (List·Memᴰ·head q) = subst (λ (y : CandidateReg). Candidate j v y) (sym q) (a .0)
   candidates-out (x ∷ xs) a c (List·Memᴰ·tail m) = candidates-out xs (a .1) c m
 

@@ -14,3 +14,4 @@ pub mod Demand3
 pub mod Agreement
 pub mod NeverShared
 pub mod EvictOrder
+pub mod Capacity

@@ -26,7 +26,7 @@ use Rattle.allocator.specs.Calls.{Call, placing, evicting, running, refu
 use Rattle.allocator.specs.Holding.{Event, gets, loses, Holding, nothingHeld, but, changed, byDecision, byRun, byAccepted, byCall, byCalls, holds}
 use Rattle.allocator.proofs.Holders.{none-some, same-some, but-cases, cellsOf, cell-in, cell-out}
 use Rattle.allocator.proofs.Weights.{not-bad-plain}
-use Rattle.allocator.proofs.Agrees.{regHeld, queuedAt, Candidate, Waiting, Agrees, fresh-agrees, give-agrees, requeue-agrees, leave-agrees, evict-agrees}
+use Rattle.allocator.proofs.Agrees.{regHeld, queuedAt, Candidate, Waiting, Agrees, last-named, fresh-agrees, give-agrees, requeue-agrees, leave-agrees, evict-agrees}
 use Rattle.allocator.proofs.Decisions.{Takes, Fits, decide-fits}
 use Rattle.allocator.proofs.Accepted.{Placeable, placing-accepted}
 
@@ -132,7 +132,7 @@ module _ (j : Job) (p : Premises j) where
 
     pub dequeue-agrees : (q : Stage) → Agrees j (stateOf (dequeue j s v q)) (foldl changed h (byDecision v (decide j s v q)))
     unfolding dequeue
-    dequeue-agrees q = carried-agrees (decide j s v q) (decide-fits j p s v (w .known) (λ r e. a .last v r (w .known) e) q)
+    dequeue-agrees q = carried-agrees (decide j s v q) (decide-fits j p s v (w .known) (λ r e. last-named j p s h a v r (w .known) e) q)
 
 -- ---- who is dequeued
 
