@@ -2,7 +2,7 @@
 -- Assumes nothing.
 use Prim.Native.Nat.{ℕ}
 use native.Mathlib.Omega.{arith}
-use mathlib.Core.Path.{_≡_, refl, sym, ap, ap₂, _∙_, subst}
+use mathlib.Core.Path.{_≡_, refl, sym, ap, _∙_, subst}
 use mathlib.Core.Logic.{_↔_}
 use mathlib.Core.List.{List}
 use mathlib.Core.Option.{Option, none, some}
@@ -14,12 +14,12 @@ use Rattle.reg_matrix.specs.Refusals.{shortBuffer}
 use Rattle.job.specs.Model.{Job}
 use Rattle.job.specs.Load.{Bytes, loaded}
 use Rattle.job.proofs.Premises.{Premises, IsNumber}
-use Rattle.allocator.specs.State.{State, CandidateReg, Stage, Assignment, Assigned, Unassigned, Dead, heldBy, isLeftOver, flag, isUnassigned, assignment, recordOf}
+use Rattle.allocator.specs.State.{State, CandidateReg, Stage, Assignment, Assigned, heldBy, isLeftOver, flag, isUnassigned, assignment, recordOf}
 use Rattle.allocator.specs.Layout.{stageLimits}
 use Rattle.allocator.specs.Calls.{load, Call, evicting, refusalOf, evicted, regOf, orRefused, answerOf, afterAll}
 use Rattle.allocator.specs.Holding.{Holding, holds}
-use Rattle.allocator.proofs.Holders.{none-some, same-some, TableOf}
-use Rattle.allocator.proofs.Agrees.{regHeld, queuedAt, Waiting, Agrees, on-record}
+use Rattle.allocator.proofs.Holders.{none-some, TableOf}
+use Rattle.allocator.proofs.Agrees.{regHeld, queuedAt, Agrees, on-record}
 use Rattle.allocator.proofs.Accepted.{evicting-accepted}
 use Rattle.allocator.proofs.Runs.{after-agrees}
 use Rattle.allocator.proofs.Loading.{stage-premises}

@@ -4,7 +4,7 @@ use Prim.Native.Nat.{ℕ, zero, suc, _<_, _≤_, _+_, _-_}
 use native.Mathlib.Omega.{arith}
 use mathlib.Core.Path.{_≡_, refl, sym, ap, _∙_, subst, fun-ext}
 use mathlib.Core.Logic.{_⊎_, inl, inr}
-use mathlib.Core.List.{List, [], _∷_, _++_}
+use mathlib.Core.List.{List, [], _++_}
 use mathlib.Core.Option.{Option, none, some}
 use mathlib.Core.Bool.{Bool, true, false, not, _||_}
 use lib.Dec.{T, T-not, not-T}
@@ -12,7 +12,7 @@ use lib.ListN.{length, getD, set, replicate, length-append, length-replicate, le
 use lib.Seq.{getD-set-same, getD-set-other, getD-append-add}
 use Rattle.reg_matrix.specs.Lists.{padded}
 use Rattle.reg_matrix.proofs.Tests.{less-equal-greater}
-use Rattle.job.specs.Model.{Job, virtReg, segmentsOf, unitMap}
+use Rattle.job.specs.Model.{Job, virtReg}
 use Rattle.job.proofs.Premises.{Premises, IsNumber, Plain}
 use Rattle.allocator.specs.State.{State, CandidateReg, Stage, Evict, freshState, heldBy, isLeftOver, flag, lastGiven, checkOf, give, lose, loseHeld, evictNumber, requeue, leave}
 use Rattle.allocator.specs.Calls.{named}
@@ -57,11 +57,15 @@ pub record Sizes (s : State) : Type 0 where
 
 pub record Agrees (j : Job) (s : State) (h : Holding) : Type 0 where
   pub sizes : Sizes s
+  -- the table has the cells of the holders
   pub table : TableOf j h (s .table)
+  -- the registers on record are those held, by numbers that may have them
   pub regs : (v : ℕ) → regHeld (heldBy s v) ≡ h v
   pub holder : (v : ℕ) (c : CandidateReg) → heldBy s v ≡ some c → IsNumber j v × Candidate j v c
+  -- who is left over holds nothing; who is queued holds nothing either, and is not left over
   pub left : (v : ℕ) → T (isLeftOver s v) → h v ≡ none
   pub queue : (v : ℕ) (q : Stage) → queuedAt s v ≡ some q → Waiting j s h v
+  -- the register last given to a set is one that its members may have
   pub last : (t r : ℕ) → getD (s .last) t none ≡ some r → SetNames j t r
 
 -- who holds a register, as Holding says it, has it on record

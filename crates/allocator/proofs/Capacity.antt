@@ -1,47 +1,44 @@
 -- What fixed buffers hold after every list of calls: at most 2,560 entries, words below 2^64, and weights that are no NaN and have no sign.
 -- Assumes nothing.
-use Prim.Native.Nat.{ℕ, zero, suc, _<_, _≤_, _+_, _*_, _-_, _^_, min}
+use Prim.Native.Nat.{ℕ, suc, _<_, _≤_, _+_, _*_, _-_, _^_}
 use native.Mathlib.Omega.{arith}
 use native.Mathlib.Nat.{zero-add, add-zero, zero-mul, suc-mul, mul-le-mul-right, min-le-right}
-use mathlib.Core.Path.{_≡_, refl, sym, ap, _∙_, subst}
+use mathlib.Core.Path.{_≡_, refl, sym, _∙_, subst}
 use mathlib.Core.Logic.{_⊎_, inl, inr}
-use mathlib.Core.List.{List, [], _∷_, _++_, map, List·Memᴰ·head, List·Memᴰ·tail}
+use mathlib.Core.List.{List, [], _∷_, map}
 use mathlib.Core.Option.{Option, none, some}
 use mathlib.Core.Bool.{Bool, true, false, cond}
 use lib.Ieee.{Float, binary32, add, lt}
 use lib.ListN.{length, getD, length-append, length-map, List·getD-eq-default}
 use Rattle.reg_matrix.specs.Lists.{concatMap, count, foldl, isNil}
 use Rattle.reg_matrix.specs.Table.{unitsOf}
-use Rattle.reg_matrix.specs.Layout.{maxEntries, greatest, endWord, indexWord, reservationWord, restWord}
+use Rattle.reg_matrix.specs.Layout.{maxEntries, greatest, endWord, reservationWord, restWord}
 use Rattle.reg_matrix.specs.declared.ValueSegment.{ValueSegment}
 use Rattle.reg_matrix.specs.declared.Entry.{Entry}
 use Rattle.reg_matrix.specs.declared.Reservation.{Reservation}
 use Rattle.reg_matrix.specs.declared.Reservation.the-variants.{Held, FixedUse, FixedDef}
-use Rattle.reg_matrix.specs.declared.FixedIndex.{FixedIndex}
 use Rattle.reg_matrix.specs.declared.FixedIndex.the-variants.{At, NoIndex}
 use Rattle.reg_matrix.specs.declared.Interference.{Interference}
 use Rattle.reg_matrix.proofs.Tests.{less-equal-greater}
 use Rattle.reg_matrix.proofs.Members.{_∈_}
-use Rattle.reg_matrix.proofs.Cells.{Cell}
-use Rattle.reg_matrix.proofs.Whole.{cellOf, cellsOn, cells}
+use Rattle.reg_matrix.proofs.Whole.{cellOf, cellsOn}
 use Rattle.reg_matrix.proofs.Laws.{table-size}
 use Rattle.job.specs.Model.{VirtReg, Job, virtReg, noVirtReg, segmentsOf, unitMap, zeroWeight}
 use Rattle.job.specs.Load.{Bytes, loaded}
-use Rattle.job.specs.Layout.{allSegments}
-use Rattle.job.proofs.Premises.{Premises, IsNumber, IsReg, Plain}
+use Rattle.job.proofs.Premises.{Premises, IsNumber, Plain}
 use Rattle.allocator.specs.State.{State, CandidateReg, Stage, Evict, Split, heldBy, weightOf, lastGiven}
 use Rattle.allocator.specs.Order.{hintedOrder, order}
 use Rattle.allocator.specs.Queue.{stageBit, encode}
-use Rattle.allocator.specs.Evict.{EvictCost, holders, firsts, weights, spillWeight, maxWeight, greatestSpill, costOf}
+use Rattle.allocator.specs.Evict.{holders, firsts, weights, spillWeight, maxWeight, greatestSpill, costOf}
 use Rattle.allocator.specs.Calls.{load, Call, afterAll}
 use Rattle.allocator.specs.Holding.{Holding, holds}
 use Rattle.allocator.proofs.Holders.{cellsIf, cellsOf}
 use Rattle.allocator.proofs.Weights.{plain-zero, plain-add, plain-cond}
-use Rattle.allocator.proofs.Agrees.{queuedAt, Candidate, Sizes, Agrees, holder-known, last-named}
+use Rattle.allocator.proofs.Agrees.{queuedAt, Sizes, Agrees, holder-known, last-named}
 use Rattle.allocator.proofs.Decisions.{Candidates, candidates-out, hinted-good, order-good}
 use Rattle.allocator.proofs.Runs.{after-agrees}
 use Rattle.allocator.proofs.Rebuilt.{named-known}
-use Rattle.allocator.proofs.Entries.{SmallIndex, SmallReservation, Bounded, entry-bounded}
+use Rattle.allocator.proofs.Entries.{SmallReservation, entry-bounded}
 use Rattle.allocator.proofs.Loading.{stage-premises}
 
 -- of a state of the job j

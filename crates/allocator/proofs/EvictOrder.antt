@@ -2,23 +2,22 @@
 -- state. Assumes nothing.
 use Prim.Native.Nat.{ℕ, _<_}
 use native.Mathlib.Omega.{arith}
-use mathlib.Core.Path.{_≡_, refl, sym, ap, ap₂, _∙_, subst, fun-ext}
+use mathlib.Core.Path.{_≡_, refl, sym, ap, ap₂, _∙_, subst}
 use mathlib.Core.Logic.{_⊎_, inl, inr, _↔_}
-use mathlib.Core.List.{List, [], _∷_, List·Memᴰ·head, List·Memᴰ·tail, List·Memᴰ·cases-cons}
+use mathlib.Core.List.{List, [], _∷_}
 use mathlib.Core.Option.{Option, none, some}
-use mathlib.Core.Bool.{Bool, true, false, not, _&&_, _||_, cond}
+use mathlib.Core.Bool.{Bool, true, false, _&&_, _||_, cond}
 use lib.Dec.{T, eqb, eqb→eq}
 use lib.ListN.{length, getD, set}
 use lib.Seq.{ext-getD}
 use Rattle.reg_matrix.specs.Lists.{foldl, has, isSome}
-use Rattle.reg_matrix.specs.Table.{Table}
 use Rattle.reg_matrix.proofs.Tests.{eqb-in, same-test}
 use Rattle.reg_matrix.proofs.Members.{_∈_}
 use Rattle.job.specs.Model.{Job}
 use Rattle.job.specs.Load.{Bytes, loaded}
 use Rattle.job.proofs.Premises.{Premises}
 use Rattle.allocator.specs.State.{State, CandidateReg, Stage, Evict, heldBy, lose, loseHeld, evictNumber, give}
-use Rattle.allocator.specs.Dequeue.{Step, goesOn, takes, evictAll, carryOut}
+use Rattle.allocator.specs.Dequeue.{goesOn, takes, evictAll, carryOut}
 use Rattle.allocator.specs.Run.{run}
 use Rattle.allocator.specs.Calls.{load, Call, afterAll}
 use Rattle.allocator.specs.Holding.{Holding, but, holds}

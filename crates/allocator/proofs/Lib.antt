@@ -15,3 +15,4 @@ pub mod Agreement
 pub mod NeverShared
 pub mod EvictOrder
 pub mod Capacity
+pub mod NotBytes

@@ -2,13 +2,12 @@
 -- none overlaps a fixed reservation of a unit of its register, except fixed uses of its own value. Assumes nothing.
 use Prim.Native.Nat.{ℕ, _<_, _≤_}
 use native.Mathlib.Omega.{arith}
-use mathlib.Core.Path.{_≡_, refl, sym, ap, _∙_, subst}
-use mathlib.Core.Logic.{_⊎_, inl, inr}
+use mathlib.Core.Path.{_≡_, refl, ap, _∙_}
+use mathlib.Core.Logic.{inl, inr}
 use mathlib.Core.List.{List}
-use mathlib.Core.Option.{Option, none, some}
+use mathlib.Core.Option.{none, some}
 use lib.Dec.{T, eqb→eq}
-use Rattle.reg_matrix.specs.Table.{unitsOf}
-use Rattle.reg_matrix.specs.Check.{overlaps, ownUse}
+use Rattle.reg_matrix.specs.Check.{ownUse}
 use Rattle.reg_matrix.specs.declared.ValueSegment.{ValueSegment}
 use Rattle.reg_matrix.specs.declared.Entry.{Entry}
 use Rattle.reg_matrix.specs.declared.Reservation.{Reservation}
@@ -16,7 +15,7 @@ use Rattle.reg_matrix.specs.declared.Reservation.the-variants.{Held, FixedUse, 
 use Rattle.reg_matrix.proofs.Members.{_∈_}
 use Rattle.reg_matrix.proofs.Cells.{Disjoint, Free, →overlaps}
 use Rattle.reg_matrix.proofs.Whole.{cellOf}
-use Rattle.job.specs.Model.{Job, segmentsOf, unitMap}
+use Rattle.job.specs.Model.{Job, segmentsOf}
 use Rattle.job.specs.Load.{Bytes, loaded}
 use Rattle.job.proofs.Premises.{Premises}
 use Rattle.allocator.specs.State.{State}

@@ -1,32 +1,32 @@
 -- After every list of calls the state agrees with Holding: evictions, a dequeue, a run, a call, a list of calls. Assumes nothing.
-use Prim.Native.Nat.{ℕ, zero, suc, _<_, _+_}
+use Prim.Native.Nat.{ℕ, zero, suc, _+_}
 use native.Mathlib.Omega.{arith}
-use native.Mathlib.Nat.{zero-add, add-zero, suc-add, add-suc}
+use native.Mathlib.Nat.{zero-add}
 use mathlib.Core.Path.{_≡_, refl, sym, ap, _∙_, subst}
 use mathlib.Core.Logic.{_⊎_, inl, inr}
 use mathlib.Core.List.{List, [], _∷_, _++_, map, List·Memᴰ·head, List·Memᴰ·tail, List·Memᴰ·cases-cons}
 use mathlib.Core.Option.{Option, none, some}
-use mathlib.Core.Bool.{Bool, true, false, not, _&&_, cond}
+use mathlib.Core.Bool.{Bool, true, false, not, cond}
 use lib.Dec.{T, ltb}
 use lib.Ieee.{Float}
-use lib.ListN.{length, getD}
+use lib.ListN.{getD}
 use Rattle.reg_matrix.specs.Lists.{foldl, isSome}
 use Rattle.reg_matrix.proofs.Members.{_∈_}
 use Rattle.reg_matrix.proofs.Tests.{both}
 use Rattle.reg_matrix.proofs.Cells.{Cell}
 use Rattle.reg_matrix.proofs.Laws.{clear-free, reports-cover}
-use Rattle.job.specs.Model.{Job, virtReg, segmentsOf, unitMap}
-use Rattle.job.proofs.Premises.{Premises, IsNumber}
-use Rattle.allocator.specs.State.{State, CandidateReg, Stage, Split, freshState, heldBy, isLeftOver, isUnassigned, checkOf, give, lose, loseHeld, evictNumber, requeue, leave}
+use Rattle.job.specs.Model.{Job, segmentsOf, unitMap}
+use Rattle.job.proofs.Premises.{Premises}
+use Rattle.allocator.specs.State.{State, CandidateReg, Stage, Split, freshState, heldBy, isLeftOver, checkOf, give, lose, loseHeld, evictNumber}
 use Rattle.allocator.specs.Order.{candidate}
-use Rattle.allocator.specs.Queue.{Queued, encode, ahead, orAhead, nextFrom}
+use Rattle.allocator.specs.Queue.{Queued, encode, orAhead, nextFrom}
 use Rattle.allocator.specs.Dequeue.{Decision, leaves, takes, splits, fails, decide, Step, goesOn, tooMany, evictAll, carryOut, dequeue}
 use Rattle.allocator.specs.Run.{Ran, ran, Done, nextOf, runFrom, run}
 use Rattle.allocator.specs.Calls.{Call, placing, evicting, running, refusalOf, carriedOut, unlessRefused, after, afterAll}
 use Rattle.allocator.specs.Holding.{Event, gets, loses, Holding, nothingHeld, but, changed, byDecision, byRun, byAccepted, byCall, byCalls, holds}
-use Rattle.allocator.proofs.Holders.{none-some, same-some, but-cases, cellsOf, cell-in, cell-out}
+use Rattle.allocator.proofs.Holders.{none-some, but-cases, cellsOf, cell-in, cell-out}
 use Rattle.allocator.proofs.Weights.{not-bad-plain}
-use Rattle.allocator.proofs.Agrees.{regHeld, queuedAt, Candidate, Waiting, Agrees, last-named, fresh-agrees, give-agrees, requeue-agrees, leave-agrees, evict-agrees}
+use Rattle.allocator.proofs.Agrees.{regHeld, queuedAt, Waiting, Agrees, last-named, fresh-agrees, give-agrees, requeue-agrees, leave-agrees, evict-agrees}
 use Rattle.allocator.proofs.Decisions.{Takes, Fits, decide-fits}
 use Rattle.allocator.proofs.Accepted.{Placeable, placing-accepted}
 

@@ -2,7 +2,6 @@
 use Prim.Native.Nat.{ℕ}
 use mathlib.Core.Path.{_≡_, refl, sym, ap, _∙_, subst, fun-ext}
 use mathlib.Core.Option.{Option, none, some}
-use mathlib.Core.List.{List}
 use lib.Dec.{eqb-refl}
 use Rattle.reg_matrix.specs.Table.{Table, unitsOf}
 use Rattle.reg_matrix.specs.declared.ValueSegment.{ValueSegment}
@@ -14,7 +13,7 @@ use Rattle.reg_matrix.proofs.Cells.{Cell, entryFor, Laid, reserved, cell}
 use Rattle.reg_matrix.proofs.Whole.{cellOf}
 use Rattle.reg_matrix.proofs.Laws.{table-decided}
 use Rattle.job.specs.Model.{Job, segmentsOf, unitMap}
-use Rattle.job.proofs.Premises.{Premises, IsNumber, IsReg, UnitsWithin}
+use Rattle.job.proofs.Premises.{Premises, IsNumber, UnitsWithin}
 use Rattle.allocator.specs.State.{State}
 use Rattle.allocator.specs.Holding.{Holding}
 use Rattle.allocator.proofs.Holders.{none-some, same-some, HasUnit, cellsOf, cell-in, cell-out, TableOf}
