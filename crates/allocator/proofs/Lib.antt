@@ -1,4 +1,5 @@
 pub mod Opened
+pub mod Cases
 pub mod Holders
 pub mod Agrees
 pub mod Weights

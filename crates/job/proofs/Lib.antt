@@ -5,3 +5,4 @@ pub mod Units
 pub mod Weights
 pub mod Fields
 pub mod Loads
+pub mod Hex

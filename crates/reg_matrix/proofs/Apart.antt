@@ -4,18 +4,17 @@ use Prim.Native.Nat.{ℕ, _<_, _≤_}
 use native.Mathlib.Omega.{arith}
 use mathlib.Core.Path.{_≡_, refl, sym, ap, _∙_, subst}
 use mathlib.Core.Logic.{_⊎_, inl, inr, ⊎-swap}
-use mathlib.Core.List.{List, [], _∷_, _++_, List·Memᴰ·head, List·Memᴰ·tail, List·Memᴰ·cases-cons, Memᴰ·append-left}
+use mathlib.Core.List.{List, [], _∷_, List·Memᴰ·head, List·Memᴰ·tail, List·Memᴰ·cases-cons, Memᴰ·append-left}
 use lib.Dec.{T}
 use Rattle.reg_matrix.specs.Table.{Table, before, onUnit}
 use Rattle.reg_matrix.specs.Check.{overlaps}
 use Rattle.reg_matrix.specs.Assign.{replaced}
 use Rattle.reg_matrix.specs.declared.Entry.{Entry}
 use Rattle.reg_matrix.specs.declared.FixedIndex.{FixedIndex}
-use Rattle.reg_matrix.specs.declared.Reservation.{Reservation}
 use Rattle.reg_matrix.specs.declared.Reservation.the-variants.{Held}
 use Rattle.reg_matrix.proofs.Members.{_∈_, onUnit-out}
 use Rattle.reg_matrix.proofs.Sorted.{Before, before→, below-out, Sorted, onUnit-sorted}
-use Rattle.reg_matrix.proofs.Cells.{Disjoint, Inside, →replaced, overlaps-or-not, Cell, entryFor, Laid, reserved, cell, IsTable, Free}
+use Rattle.reg_matrix.proofs.Cells.{Disjoint, Inside, →replaced, overlaps-or-not, Cell, entryFor, Laid, reserved, cell, IsTable}
 use Rattle.reg_matrix.proofs.Chains.{Chain, Sound}
 use Rattle.reg_matrix.proofs.Whole.{Joins}
 

@@ -6,7 +6,7 @@ use mathlib.Core.Path.{_≡_, refl, sym, ap, _∙_, subst}
 use mathlib.Core.Logic.{_⊎_, inl, inr}
 use mathlib.Core.List.{List, [], _∷_, _++_, map, List·Memᴰ·head, List·Memᴰ·tail, List·Memᴰ·cases-cons, Memᴰ·append-left, Memᴰ·append-right, Memᴰ·map}
 use mathlib.Core.Bool.{Bool, true, false, not, _&&_, cond}
-use lib.Dec.{T, ltb, eqb, T-not, not-T, ltb→lt}
+use lib.Dec.{T, ltb, eqb, not-T, ltb→lt}
 use lib.ListN.{length, length-append, length-map}
 use Rattle.reg_matrix.specs.Lists.{keep, filter, any}
 use Rattle.reg_matrix.specs.Table.{Table, isUse, before, fixedUses}
@@ -15,7 +15,6 @@ use Rattle.reg_matrix.specs.declared.ValueSegment.{ValueSegment}
 use Rattle.reg_matrix.specs.declared.Entry.{Entry}
 use Rattle.reg_matrix.specs.declared.FixedIndex.{FixedIndex}
 use Rattle.reg_matrix.specs.declared.FixedIndex.the-variants.{At, NoIndex}
-use Rattle.reg_matrix.specs.declared.Reservation.{Reservation}
 use Rattle.reg_matrix.specs.declared.Reservation.the-variants.{Held}
 use Rattle.reg_matrix.proofs.Members.{_∈_, any-out, fixedUses-in}
 use Rattle.reg_matrix.proofs.Sorted.{Sorted, Within, below-out, before-irrefl}

@@ -5,8 +5,8 @@ use Prim.Native.Nat.{ℕ, _<_, _≤_}
 use native.Mathlib.Omega.{arith}
 use mathlib.Core.Path.{_≡_, refl, sym, ap, _∙_, subst}
 use mathlib.Core.Logic.{_⊎_, inl, inr}
-use mathlib.Core.List.{List, [], _∷_, List·Memᴰ·head, List·Memᴰ·tail}
-use mathlib.Core.Bool.{Bool, true, false, not, _&&_, cond}
+use mathlib.Core.List.{List, _∷_, List·Memᴰ·head, List·Memᴰ·tail}
+use mathlib.Core.Bool.{Bool, not, _&&_, cond}
 use lib.Dec.{T, ltb, leb, eqb, ltb→lt, lt→ltb, leb→le, le→leb, nltb→le, eqb→eq, T-not, not-T}
 use Rattle.reg_matrix.specs.Lists.{filter, any}
 use Rattle.reg_matrix.specs.Table.{Table, isUse, fixedUses, insert}

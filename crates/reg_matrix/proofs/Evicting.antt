@@ -1,15 +1,14 @@
 -- Evicting one cell takes it off the table's cells: its entry goes, and the fixed uses that it replaced come back. Assumes nothing.
-use Prim.Native.Nat.{ℕ, _<_, _≤_}
+use Prim.Native.Nat.{_<_, _≤_}
 use native.Mathlib.Omega.{arith}
 use mathlib.Core.Path.{_≡_, refl, sym, ap, _∙_, subst}
 use mathlib.Core.Logic.{_⊎_, inl, inr}
-use mathlib.Core.List.{List, [], _∷_, List·Memᴰ·head, List·Memᴰ·tail}
+use mathlib.Core.List.{List, _∷_, List·Memᴰ·head, List·Memᴰ·tail}
 use mathlib.Core.Bool.{Bool, true, false, not, _&&_, cond}
 use lib.ListN.{drop}
 use lib.Dec.{T, ltb, eqb, ltb→lt, lt→ltb, eqb→eq, eqb-refl, T-not, not-T}
 use Rattle.reg_matrix.specs.Lists.{filter, any, first}
-use Rattle.reg_matrix.specs.Table.{Table, isUse, fixedUses, insertAll}
-use Rattle.reg_matrix.specs.Check.{overlaps}
+use Rattle.reg_matrix.specs.Table.{Table, fixedUses, insertAll}
 use Rattle.reg_matrix.specs.Assign.{replaced, firstUse, fixedIndex, heldBy, entryOf, indexOf, usesFrom, putBack, evictSegment}
 use Rattle.reg_matrix.specs.declared.Entry.{Entry}
 use Rattle.reg_matrix.specs.declared.FixedIndex.{FixedIndex}

@@ -1,3 +1,5 @@
+pub mod Opened
+pub mod Checks
 pub mod Tests
 pub mod Members
 pub mod Sorted

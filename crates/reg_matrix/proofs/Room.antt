@@ -21,7 +21,7 @@ use Rattle.reg_matrix.specs.declared.Interference.{Interference}
 use Rattle.reg_matrix.specs.declared.InterferenceKind.the-variants.{VirtReg, Fixed}
 use Rattle.reg_matrix.proofs.Tests.{both-in, or-left, or-right, passes-or-not, same-test}
 use Rattle.reg_matrix.proofs.Members.{_∈_, filter-in, any-in, any-out, concat-in, onUnit-in, fixedUses-in}
-use Rattle.reg_matrix.proofs.Cells.{Disjoint, Inside, replaced→, overlaps→, →overlaps, overlaps-or-not, Cell, entryFor, Laid, reserved, cell, IsTable, Free, Among}
+use Rattle.reg_matrix.proofs.Cells.{Disjoint, Inside, replaced→, overlaps→, →overlaps, overlaps-or-not, Cell, entryFor, reserved, cell, IsTable, Among}
 use Rattle.reg_matrix.proofs.Chains.{from-first-in, Sound, not-held, uses-nonempty}
 use Rattle.reg_matrix.proofs.Whole.{cells, AllFree, Joins, Rising, joins-units}
 use Rattle.reg_matrix.proofs.Clear.{Segments}

@@ -5,7 +5,7 @@ use native.Mathlib.Omega.{arith}
 use mathlib.Core.Path.{_≡_, refl, sym, ap₂, _∙_, subst}
 use mathlib.Core.Logic.{_⊎_, inl, inr, ⊎-swap}
 use mathlib.Core.List.{List, [], _∷_, List·Memᴰ·head, List·Memᴰ·tail, List·Memᴰ·cases-cons}
-use mathlib.Core.Bool.{Bool, true, false, not, _&&_, _||_}
+use mathlib.Core.Bool.{Bool, true, false, _&&_}
 use lib.Dec.{T, ltb, eqb, ltb→lt, lt→ltb, eqb→eq}
 use Rattle.reg_matrix.specs.Lists.{keep, filter, foldl}
 use Rattle.reg_matrix.specs.Table.{Table, before, putBefore, insert, insertAll, onUnit}

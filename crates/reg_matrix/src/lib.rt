@@ -1,6 +1,9 @@
 // The reservation matrix: which virtual register or fixed operand has a register unit, and when (`reg_matrix.rs`, `live_range.rs`).
 // These are the types that the definitions and every contract above speak of.
 
+mod lent;
+mod words;
+
 // A part of a virtual register's live range, half-open, with the value that lives in it. A point's low two bits are its slot.
 pub struct ValueSegment {
     pub from: u32,
