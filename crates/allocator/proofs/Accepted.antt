@@ -4,9 +4,9 @@ use native.Mathlib.Omega.{arith}
 use mathlib.Core.Path.{_≡_, refl, sym, subst}
 use mathlib.Core.Logic.{_↔_}
 use mathlib.Core.List.{List, [], _∷_}
-use mathlib.Core.Option.{Option, none, some}
-use mathlib.Core.Bool.{Bool, true, false, not, _||_, cond}
-use lib.Dec.{T, leb, T-not, not-T, leb→le, nleb→lt}
+use mathlib.Core.Option.{none}
+use mathlib.Core.Bool.{Bool, true, false, not, _||_}
+use lib.Dec.{T, leb, not-T, leb→le, nleb→lt}
 use lib.Ieee.{Float}
 use lib.ListN.{length}
 use Rattle.reg_matrix.specs.Lists.{isNil, isSome}
@@ -16,7 +16,7 @@ use Rattle.job.proofs.Premises.{IsNumber, IsReg}
 use Rattle.job.proofs.Weights.{neither}
 use Rattle.allocator.specs.State.{State, heldBy, isUnassigned, checkOf}
 use Rattle.allocator.specs.Layout.{stageLimits}
-use Rattle.allocator.specs.Calls.{placing, evicting, running, unknownNumber, named, badWeight, refusalOf}
+use Rattle.allocator.specs.Calls.{placing, evicting, unknownNumber, named, badWeight, refusalOf}
 use Rattle.allocator.proofs.Holders.{none-some}
 
 -- ---- tests

@@ -4,7 +4,7 @@ use Prim.Native.Nat.{ℕ, zero, suc, _<_, _≤_, _+_, _-_}
 use native.Mathlib.Omega.{arith}
 use mathlib.Core.Path.{_≡_, refl, sym, ap, _∙_, subst, fun-ext}
 use mathlib.Core.Logic.{_⊎_, inl, inr}
-use mathlib.Core.List.{List, [], _∷_, _++_}
+use mathlib.Core.List.{List, [], _++_}
 use mathlib.Core.Option.{Option, none, some}
 use mathlib.Core.Bool.{Bool, true, false, not, _||_}
 use lib.Dec.{T, T-not, not-T}
@@ -12,7 +12,7 @@ use lib.ListN.{length, getD, set, replicate, length-append, length-replicate, le
 use lib.Seq.{getD-set-same, getD-set-other, getD-append-add}
 use Rattle.reg_matrix.specs.Lists.{padded}
 use Rattle.reg_matrix.proofs.Tests.{less-equal-greater}
-use Rattle.job.specs.Model.{Job, virtReg, segmentsOf, unitMap}
+use Rattle.job.specs.Model.{Job, virtReg}
 use Rattle.job.proofs.Premises.{Premises, IsNumber, Plain}
 use Rattle.allocator.specs.State.{State, CandidateReg, Stage, Evict, freshState, heldBy, isLeftOver, flag, lastGiven, checkOf, give, lose, loseHeld, evictNumber, requeue, leave}
 use Rattle.allocator.specs.Calls.{named}
@@ -40,6 +40,13 @@ pub record Waiting (j : Job) (s : State) (h : Holding) (v : ℕ) : Type 0 where
   pub idle : h v ≡ none
   pub stays : T (not (isLeftOver s v))
 
+-- the class or a hint of the set t names r: that of one of its members
+pub record SetNames (j : Job) (t r : ℕ) : Type 0 where
+  pub member : ℕ
+  pub known : IsNumber j member
+  pub in-set : virtReg j member .valueSet ≡ t
+  pub names : T (named j member r)
+
 -- every list has 512 places
 pub record Sizes (s : State) : Type 0 where
   pub held : length (s .held) ≡ 512
@@ -50,12 +57,16 @@ pub record Sizes (s : State) : Type 0 where
 
 pub record Agrees (j : Job) (s : State) (h : Holding) : Type 0 where
   pub sizes : Sizes s
+  -- the table has the cells of the holders
   pub table : TableOf j h (s .table)
+  -- the registers on record are those held, by numbers that may have them
   pub regs : (v : ℕ) → regHeld (heldBy s v) ≡ h v
   pub holder : (v : ℕ) (c : CandidateReg) → heldBy s v ≡ some c → IsNumber j v × Candidate j v c
+  -- who is left over holds nothing; who is queued holds nothing either, and is not left over
   pub left : (v : ℕ) → T (isLeftOver s v) → h v ≡ none
   pub queue : (v : ℕ) (q : Stage) → queuedAt s v ≡ some q → Waiting j s h v
-  pub last : (v r : ℕ) → IsNumber j v → lastGiven j s v ≡ some r → T (named j v r)
+  -- the register last given to a set is one that its members may have
+  pub last : (t r : ℕ) → getD (s .last) t none ≡ some r → SetNames j t r
 
 -- who holds a register, as Holding says it, has it on record
 pub on-record : (j : Job) (s : State) (h : Holding) → Agrees j s h → (v r : ℕ) → h v ≡ some r → (c : CandidateReg) × (heldBy s v ≡ some c) × (c .reg ≡ r)
@@ -71,6 +82,16 @@ holder-known j s h a v r q =
     let k = on-record j s h a v r q in
     let l = a .holder v (k .0) (k .1) in
     (l .0, subst (λ (x : ℕ). T (named j v x)) (k .2) (l .1 .names))
+
+-- numbers of one set share a class, so what names a register for one of them does for all
+set-names : (j : Job) → Premises j → (v w r : ℕ) → IsNumber j v → IsNumber j w → virtReg j v .valueSet ≡ virtReg j w .valueSet → T (named j w r) → T (named j v r)
+unfolding named
+set-names j p v w r b c q t = rw (p .one-class v w b c q, q) t
+
+pub last-named : (j : Job) → Premises j → (s : State) (h : Holding) → Agrees j s h → (v r : ℕ) → IsNumber j v → lastGiven j s v ≡ some r → T (named j v r)
+last-named j p s h a v r b q =
+    let k = a .last (virtReg j v .valueSet) r q in
+    set-names j p v (k .member) r b (k .known) (sym (k .in-set)) (k .names)
 
 -- ---- lists
 
@@ -126,7 +147,7 @@ module _ (j : Job) (p : Premises j) where
         holder = λ v c q. absurd (none-some (sym (replicate-default 512 v none) ∙ q));
         left = λ v t. refl;
         queue = λ v q e. record { known = padded-queue (length (j .virtRegs)) v q e; idle = refl; stays = subst (λ (b : Bool). T (not b)) (sym (replicate-default 512 v false)) tt };
-        last = λ v r b q. absurd (none-some (sym (replicate-default 512 (virtReg j v .valueSet) none) ∙ q));
+        last = λ t r q. absurd (none-some (sym (replicate-default 512 t none) ∙ q));
       }
 
 -- ---- a change of one number
@@ -143,11 +164,6 @@ module _ (j : Job) (p : Premises j) (s : State) (h : Holding) (a : Agrees j s h)
   -- a number has its place in every list
   place : (n : ℕ) → n ≡ 512 → v < n
   place n q = omega (arith, p .few-numbers)
-
-  -- a name of a set's register goes for every member of the set
-  set-names : (x r : ℕ) → IsNumber j x → virtReg j x .valueSet ≡ virtReg j v .valueSet → T (named j v r) → T (named j x r)
-  unfolding named
-  set-names x r c q t = rw (p .one-class x v c b q, q) t
 
   -- ---- v gets a register
 
@@ -184,16 +200,16 @@ module _ (j : Job) (p : Premises j) (s : State) (h : Holding) (a : Agrees j s h)
             let o = a .queue x q (sym (k .1) ∙ e) in
             record { known = o .known; idle = but-other h v (some (c .reg)) x (k .0) ∙ o .idle; stays = o .stays }
 
-    give-last : (x r : ℕ) → IsNumber j x → lastGiven j given x ≡ some r → T (named j x r)
+    give-last : (t r : ℕ) → getD (given .last) t none ≡ some r → SetNames j t r
     unfolding given give
-    give-last x r d e = go (set-cases (s .last) (virtReg j v .valueSet) (virtReg j x .valueSet) (some (c .reg)) none (omega (arith, p .small-sets v b, a .sizes .last)))
+    give-last t r e = go (set-cases (s .last) (virtReg j v .valueSet) t (some (c .reg)) none (omega (arith, p .small-sets v b, a .sizes .last)))
       where
         go :
-            ((virtReg j x .valueSet ≡ virtReg j v .valueSet) × (lastGiven j given x ≡ some (c .reg)))
-            ⊎ ((virtReg j x .valueSet ≡ virtReg j v .valueSet → ⊥) × (lastGiven j given x ≡ lastGiven j s x))
-            → T (named j x r)
-        go (inl k) = set-names x r d (k .0) (subst (λ (y : ℕ). T (named j v y)) (same-some (sym (k .1) ∙ e)) (good .names))
-        go (inr k) = a .last x r d (sym (k .1) ∙ e)
+            ((t ≡ virtReg j v .valueSet) × (getD (given .last) t none ≡ some (c .reg)))
+            ⊎ ((t ≡ virtReg j v .valueSet → ⊥) × (getD (given .last) t none ≡ getD (s .last) t none))
+            → SetNames j t r
+        go (inl k) = record { member = v; known = b; in-set = sym (k .0); names = subst (λ (y : ℕ). T (named j v y)) (same-some (sym (k .1) ∙ e)) (good .names) }
+        go (inr k) = a .last t r (sym (k .1) ∙ e)
 
     pub give-agrees : Agrees j (give j v c f s) (but h v (some (c .reg)))
     unfolding given give new checkOf

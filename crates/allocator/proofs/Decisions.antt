@@ -1,16 +1,15 @@
 -- What a dequeue decides: a register that it takes is one that class or hints name, with a weight that is no NaN and has no sign; no fixed
 -- reservation is in the way, and every holder in the way is evicted. Assumes nothing.
-use Prim.Native.Nat.{ℕ, zero, suc, _<_}
+use Prim.Native.Nat.{ℕ}
 use native.Mathlib.Omega.{arith}
-use mathlib.Core.Path.{_≡_, refl, sym, ap, subst}
-use mathlib.Core.Logic.{_⊎_, inl, inr}
-use mathlib.Core.List.{List, [], _∷_, _++_, map, List·Memᴰ·head, List·Memᴰ·tail, List·Memᴰ·cases-cons}
+use mathlib.Core.Path.{_≡_, refl, sym, subst}
+use mathlib.Core.List.{List, [], _∷_, _++_, map, List·Memᴰ·head, List·Memᴰ·tail}
 use mathlib.Core.Option.{Option, none, some}
 use mathlib.Core.Bool.{Bool, true, false, not, _&&_, _||_, cond}
 use lib.Dec.{T, eqb, eqb→eq, eqb-refl, T-not}
-use lib.Ieee.{Float, binary32, add, lt}
-use lib.ListN.{length, getD}
-use Rattle.reg_matrix.specs.Lists.{any, first, orElse, has, filter, foldl, isNil, count}
+use lib.Ieee.{binary32, lt}
+use lib.ListN.{length}
+use Rattle.reg_matrix.specs.Lists.{any, first, orElse, has, foldl, isNil}
 use Rattle.reg_matrix.specs.declared.Interference.{Interference}
 use Rattle.reg_matrix.specs.declared.InterferenceKind.{InterferenceKind}
 use Rattle.reg_matrix.specs.declared.InterferenceKind.the-variants.{Fixed, VirtReg}
@@ -115,7 +114,7 @@ module _ (j : Job) (v : ℕ) where
   abbrev GoodReg : ℕ → Type 0
   GoodReg r = T (named j v r)
 
-  candidates-out : (cs : List CandidateReg) → Candidates cs → (c : CandidateReg) → c ∈ cs → Candidate j v c
+  pub candidates-out : (cs : List CandidateReg) → Candidates cs → (c : CandidateReg) → c ∈ cs → Candidate j v c
   candidates-out (x ∷ xs) a c (List·Memᴰ·head q) = subst (λ (y : CandidateReg). Candidate j v y) (sym q) (a .0)
   candidates-out (x ∷ xs) a c (List·Memᴰ·tail m) = candidates-out xs (a .1) c m
 

@@ -1,11 +1,9 @@
 -- The numbers in the table's entries: units below 64, points below 2^32, values below 2^16, holders and fixed indices below 512. So an entry's
 -- printed numbers have at most 20 digits. Assumes nothing.
-use Prim.Native.Nat.{ℕ, _<_, _≤_, _^_}
+use Prim.Native.Nat.{ℕ, _<_, _^_}
 use native.Mathlib.Omega.{arith}
-use mathlib.Core.Path.{_≡_, refl, sym, ap, _∙_, subst}
+use mathlib.Core.Path.{_≡_, refl, sym, subst}
 use mathlib.Core.Logic.{_⊎_, inl, inr}
-use mathlib.Core.List.{List}
-use lib.ListN.{length}
 use Rattle.reg_matrix.specs.Layout.{useValue}
 use Rattle.reg_matrix.specs.Assign.{fixedIndex}
 use Rattle.reg_matrix.specs.declared.Entry.{Entry}

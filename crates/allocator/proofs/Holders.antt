@@ -1,6 +1,6 @@
 -- The cells of those who hold a register, in the order of their numbers. The table has these cells (`Matrix`), and it keeps them when a number
 -- gets a register whose check is clear, and when a number loses one. Assumes nothing.
-use Prim.Native.Nat.{ℕ, zero, suc, _<_, _≤_, _+_, _-_}
+use Prim.Native.Nat.{ℕ, zero, suc, _<_, _+_, _-_}
 use native.Mathlib.Omega.{arith}
 use native.Mathlib.Nat.{zero-add, add-zero, suc-add, add-suc}
 use mathlib.Core.Path.{_≡_, refl, sym, ap, ap₂, _∙_, subst}
@@ -14,7 +14,6 @@ use Rattle.reg_matrix.specs.Lists.{concatMap, count}
 use Rattle.reg_matrix.specs.Table.{Table, unitsOf, freshTable}
 use Rattle.reg_matrix.specs.Check.{check}
 use Rattle.reg_matrix.specs.Assign.{assign, evict}
-use Rattle.reg_matrix.specs.declared.ValueSegment.{ValueSegment}
 use Rattle.reg_matrix.specs.declared.Entry.{Entry}
 use Rattle.reg_matrix.proofs.Members.{_∈_, concat-in, concat-out, concat-none, count-in, count-out}
 use Rattle.reg_matrix.proofs.Cells.{Disjoint, Cell, Free, Among, is-among, free-among}
@@ -144,6 +143,12 @@ pub record OfHolder (j : Job) (h : Holding) (c : Cell) : Type 0 where
   pub known : IsNumber j (c .v)
   pub unit : c .u ∈ unitsOf (unitMap j reg)
   pub segment : c .s ∈ segmentsOf j (c .v)
+
+-- v holds a register that has the unit u
+pub record HasUnit (j : Job) (h : Holding) (v u : ℕ) : Type 0 where
+  pub reg : ℕ
+  pub holds : h v ≡ some reg
+  pub unit : u ∈ unitsOf (unitMap j reg)
 
 module _ (j : Job) where
   pub cell-in : (h : Holding) (c : Cell) → OfHolder j h c → c ∈ cellsOf j h

@@ -10,4 +10,10 @@ pub mod Rebuilt
 pub mod Shown
 pub mod PrintedLines
 pub mod Entries
+pub mod Loading
 pub mod Demand3
+pub mod Agreement
+pub mod NeverShared
+pub mod EvictOrder
+pub mod Capacity
+pub mod NotBytes

@@ -15,7 +15,7 @@ use Rattle.reg_matrix.specs.declared.Reservation.{Reservation}
 use Rattle.reg_matrix.specs.declared.Reservation.the-variants.{Held, FixedUse, FixedDef}
 use Rattle.reg_matrix.specs.declared.FixedIndex.{FixedIndex}
 use Rattle.reg_matrix.specs.declared.FixedIndex.the-variants.{At, NoIndex}
-use Rattle.reg_matrix.proofs.Tests.{both-in, same-test}
+use Rattle.reg_matrix.proofs.Tests.{both-in}
 use Rattle.reg_matrix.proofs.Members.{_∈_, not-nothing}
 
 -- ---- numbers
@@ -205,6 +205,11 @@ read-entry e s h =
     ∙ ap (withFrom (e .unit)) (read-number (e .from) 32 _ (h .from) tt)
     ∙ ap (withTo (e .unit) (e .from)) (read-to (e .to) (e .reservation) (10 ∷ s) (h .to))
     ∙ ap (withReservation (e .unit) (e .from) (e .to)) (read-reservation (e .reservation) s (h .reservation))
+
+-- entries are equal where their printed lines are
+pub same-line : (e f : Entry) → Short e → Short f → entryLine e ≡ entryLine f → e ≡ f
+same-line e f a b q =
+    ap (λ (p : Entry × List ℕ). p .0) (sym (read-entry e [] a) ∙ ap (λ (l : List ℕ). readEntry (l ++ [])) q ∙ read-entry f [] b)
 
 -- ---- tables
 

@@ -5,7 +5,7 @@ use mathlib.Core.Path.{_≡_, refl, sym, ap, ap₂, _∙_, subst, fun-ext}
 use mathlib.Core.Logic.{_⊎_, inl, inr}
 use mathlib.Core.List.{List, [], _∷_, _++_, map}
 use mathlib.Core.Option.{Option, none, some}
-use mathlib.Core.Bool.{Bool, true, false, not, _&&_, _||_, cond}
+use mathlib.Core.Bool.{Bool, true, false, not, _&&_, cond}
 use lib.Dec.{T, ltb, eqb, ltb→lt, nltb→le, eqb→eq}
 use lib.Ieee.{ofBits, ofFields, odd}
 use lib.ListN.{length, getD, replicate}
@@ -13,24 +13,24 @@ use Rattle.reg_matrix.specs.Lists.{foldl, concatMap, count, any, has, isSome}
 use Rattle.reg_matrix.specs.Refusals.{shortBuffer}
 use Rattle.reg_matrix.proofs.Tests.{both, both-in, either}
 use Rattle.reg_matrix.proofs.Members.{_∈_, any-out}
-use Rattle.reg_matrix.proofs.Cells.{Cell, Among, free-among}
+use Rattle.reg_matrix.proofs.Cells.{Among, free-among}
 use Rattle.reg_matrix.proofs.Whole.{cellOf, AllFree}
 use Rattle.reg_matrix.proofs.Laws.{clear-free, table-decided}
 use Rattle.job.specs.declared.Hint.{Hint}
 use Rattle.job.specs.Model.{VirtReg, Job, virtReg, classOf, segmentsOf, unitMap, zeroWeight}
 use Rattle.job.proofs.Premises.{Premises, IsNumber, IsReg}
 use Rattle.job.proofs.Lists.{getD-in}
-use Rattle.allocator.specs.State.{State, CandidateReg, freshState, heldBy, isLeftOver, isUnassigned, checkOf, give}
+use Rattle.allocator.specs.State.{State, CandidateReg, freshState, heldBy, isLeftOver, checkOf, give}
 use Rattle.allocator.specs.Order.{candidate}
 use Rattle.allocator.specs.Layout.{stageLimits}
-use Rattle.allocator.specs.Calls.{Call, placing, named, badWeight, refusalOf, carriedOut, unlessRefused, after, Answer, placed, accepted, orRefused, answerOf, answers}
-use Rattle.allocator.specs.Holding.{Holding, nothingHeld, but}
+use Rattle.allocator.specs.Calls.{Call, named, badWeight, refusalOf, carriedOut, unlessRefused, after, Answer, placed, orRefused, answerOf, answers}
+use Rattle.allocator.specs.Holding.{Holding, but}
 use Rattle.allocator.specs.Demand.{Holder, asHolder, placeHolder}
 use Rattle.allocator.proofs.Holders.{none-some, but-cases, but-other, cellsOf, OfHolder, cell-in, cell-out, TableOf, free-beside}
 use Rattle.allocator.proofs.Weights.{plain-zero}
-use Rattle.allocator.proofs.Agrees.{regHeld, Waiting, Agrees, holder-known, replicate-default, fresh-agrees, give-agrees, but-none}
+use Rattle.allocator.proofs.Agrees.{regHeld, Agrees, holder-known, replicate-default, fresh-agrees, give-agrees, but-none}
 use Rattle.allocator.proofs.Decisions.{has-out}
-use Rattle.allocator.proofs.Accepted.{Placeable, placing-accepted}
+use Rattle.allocator.proofs.Accepted.{placing-accepted}
 
 -- ---- a register that class or hints name is one of the job's
 

@@ -1,32 +1,32 @@
 -- After every list of calls the state agrees with Holding: evictions, a dequeue, a run, a call, a list of calls. Assumes nothing.
-use Prim.Native.Nat.{ℕ, zero, suc, _<_, _+_}
+use Prim.Native.Nat.{ℕ, zero, suc, _+_}
 use native.Mathlib.Omega.{arith}
-use native.Mathlib.Nat.{zero-add, add-zero, suc-add, add-suc}
+use native.Mathlib.Nat.{zero-add}
 use mathlib.Core.Path.{_≡_, refl, sym, ap, _∙_, subst}
 use mathlib.Core.Logic.{_⊎_, inl, inr}
 use mathlib.Core.List.{List, [], _∷_, _++_, map, List·Memᴰ·head, List·Memᴰ·tail, List·Memᴰ·cases-cons}
 use mathlib.Core.Option.{Option, none, some}
-use mathlib.Core.Bool.{Bool, true, false, not, _&&_, cond}
+use mathlib.Core.Bool.{Bool, true, false, not, cond}
 use lib.Dec.{T, ltb}
 use lib.Ieee.{Float}
-use lib.ListN.{length, getD}
+use lib.ListN.{getD}
 use Rattle.reg_matrix.specs.Lists.{foldl, isSome}
 use Rattle.reg_matrix.proofs.Members.{_∈_}
 use Rattle.reg_matrix.proofs.Tests.{both}
 use Rattle.reg_matrix.proofs.Cells.{Cell}
 use Rattle.reg_matrix.proofs.Laws.{clear-free, reports-cover}
-use Rattle.job.specs.Model.{Job, virtReg, segmentsOf, unitMap}
-use Rattle.job.proofs.Premises.{Premises, IsNumber}
-use Rattle.allocator.specs.State.{State, CandidateReg, Stage, Split, freshState, heldBy, isLeftOver, isUnassigned, checkOf, give, lose, loseHeld, evictNumber, requeue, leave}
+use Rattle.job.specs.Model.{Job, segmentsOf, unitMap}
+use Rattle.job.proofs.Premises.{Premises}
+use Rattle.allocator.specs.State.{State, CandidateReg, Stage, Split, freshState, heldBy, isLeftOver, checkOf, give, lose, loseHeld, evictNumber}
 use Rattle.allocator.specs.Order.{candidate}
-use Rattle.allocator.specs.Queue.{Queued, encode, ahead, orAhead, nextFrom}
+use Rattle.allocator.specs.Queue.{Queued, encode, orAhead, nextFrom}
 use Rattle.allocator.specs.Dequeue.{Decision, leaves, takes, splits, fails, decide, Step, goesOn, tooMany, evictAll, carryOut, dequeue}
 use Rattle.allocator.specs.Run.{Ran, ran, Done, nextOf, runFrom, run}
 use Rattle.allocator.specs.Calls.{Call, placing, evicting, running, refusalOf, carriedOut, unlessRefused, after, afterAll}
 use Rattle.allocator.specs.Holding.{Event, gets, loses, Holding, nothingHeld, but, changed, byDecision, byRun, byAccepted, byCall, byCalls, holds}
-use Rattle.allocator.proofs.Holders.{none-some, same-some, but-cases, cellsOf, cell-in, cell-out}
+use Rattle.allocator.proofs.Holders.{none-some, but-cases, cellsOf, cell-in, cell-out}
 use Rattle.allocator.proofs.Weights.{not-bad-plain}
-use Rattle.allocator.proofs.Agrees.{regHeld, queuedAt, Candidate, Waiting, Agrees, fresh-agrees, give-agrees, requeue-agrees, leave-agrees, evict-agrees}
+use Rattle.allocator.proofs.Agrees.{regHeld, queuedAt, Waiting, Agrees, last-named, fresh-agrees, give-agrees, requeue-agrees, leave-agrees, evict-agrees}
 use Rattle.allocator.proofs.Decisions.{Takes, Fits, decide-fits}
 use Rattle.allocator.proofs.Accepted.{Placeable, placing-accepted}
 
@@ -63,14 +63,19 @@ without-cases (v ∷ vs) h x = go (without-cases vs (but h v none) x) (but-cases
         neither (inl e) = l .0 e
         neither (inr m) = k .0 m
 
-evictAll-left : (j : Job) (vs : List ℕ) (s : State) → evictAll j vs s .leftOver ≡ s .leftOver
-unfolding evictAll foldl evictNumber lose
-evictAll-left j [] s = refl
-evictAll-left j (v ∷ vs) s = evictAll-left j vs (evictNumber j s v) ∙ go (heldBy s v)
+-- evictions change table, records and queue alone
+pub evictAll-keeps : {A : Type 0} (f : State → A) (j : Job) → ((v r : ℕ) (s : State) → f (lose j v r s) ≡ f s) → (vs : List ℕ) (s : State) → f (evictAll j vs s) ≡ f s
+unfolding evictAll foldl evictNumber
+evictAll-keeps f j k [] s = refl
+evictAll-keeps f j k (v ∷ vs) s = evictAll-keeps f j k vs (evictNumber j s v) ∙ go (heldBy s v)
   where
-    go : (o : Option CandidateReg) → loseHeld j v s o .leftOver ≡ s .leftOver
+    go : (o : Option CandidateReg) → f (loseHeld j v s o) ≡ f s
     go none = refl
-    go (some c) = refl
+    go (some c) = k v (c .reg) s
+
+pub evictAll-left : (j : Job) (vs : List ℕ) (s : State) → evictAll j vs s .leftOver ≡ s .leftOver
+unfolding lose
+evictAll-left j vs s = evictAll-keeps (λ (s : State). s .leftOver) j (λ v r s. refl) vs s
 
 module _ (j : Job) (p : Premises j) where
   pub evictAll-agrees : (vs : List ℕ) (s : State) (h : Holding) → Agrees j s h → Agrees j (evictAll j vs s) (without h vs)
@@ -127,7 +132,7 @@ module _ (j : Job) (p : Premises j) where
 
     pub dequeue-agrees : (q : Stage) → Agrees j (stateOf (dequeue j s v q)) (foldl changed h (byDecision v (decide j s v q)))
     unfolding dequeue
-    dequeue-agrees q = carried-agrees (decide j s v q) (decide-fits j p s v (w .known) (λ r e. a .last v r (w .known) e) q)
+    dequeue-agrees q = carried-agrees (decide j s v q) (decide-fits j p s v (w .known) (λ r e. last-named j p s h a v r (w .known) e) q)
 
 -- ---- who is dequeued
 
@@ -174,7 +179,7 @@ next-queued j s q e =
 module _ (j : Job) (p : Premises j) where
   -- ---- a run
 
-  pub runFrom-agrees : (b n : ℕ) (x : Step) (h : Holding) → Agrees j (stateOf x) h → Agrees j (runFrom b j n x .state) (foldl changed h (byRun b j x))
+  runFrom-agrees : (b n : ℕ) (x : Step) (h : Holding) → Agrees j (stateOf x) h → Agrees j (runFrom b j n x .state) (foldl changed h (byRun b j x))
   unfolding runFrom byRun foldl
   runFrom-agrees zero n (tooMany s) h a = a
   runFrom-agrees zero n (goesOn s) h a = a
@@ -201,6 +206,10 @@ module _ (j : Job) (p : Premises j) where
           subst (λ (g : Holding). Agrees j (runFrom b j (suc n) x .state) g) (sym (fold-append changed h d (byRun b j x)))
           (ih x (foldl changed h d) (dequeue-agrees j p s h a (q .number) (a .queue (q .number) (q .stage) (next-queued j s q e)) (q .stage)))
 
+  pub run-agrees : (b : ℕ) (s : State) (h : Holding) → Agrees j s h → Agrees j (run j b s .state) (foldl changed h (byRun b j (goesOn s)))
+  unfolding run
+  run-agrees b s h a = runFrom-agrees b 0 (goesOn s) h a
+
   -- ---- calls
 
   place-agrees : (s : State) (h : Holding) → Agrees j s h → (lent : List ℕ) (v r : ℕ) (w : Float) → Placeable j s lent v r w → Agrees j (give j v (candidate r w) false s) (but h v (some r))
@@ -217,10 +226,10 @@ module _ (j : Job) (p : Premises j) where
           record { known = k .known; idle = sym (a .regs v) ∙ held-none (heldBy s v) (u .0); stays = u .1 }
 
   accepted-agrees : (s : State) (h : Holding) → Agrees j s h → (c : Call) → refusalOf j s c ≡ none → Agrees j (carriedOut j s c) (foldl changed h (byAccepted j s c))
-  unfolding carriedOut run foldl
+  unfolding carriedOut foldl
   accepted-agrees s h a (placing lent v r w) q = place-agrees s h a lent v r w (placing-accepted j s lent v r w .0 q)
   accepted-agrees s h a (evicting lent v) q = evict-agrees j p s h a v
-  accepted-agrees s h a (running lent b) q = runFrom-agrees b 0 (goesOn s) h a
+  accepted-agrees s h a (running lent b) q = run-agrees b s h a
 
   call-agrees : (s : State) (h : Holding) → Agrees j s h → (c : Call) → Agrees j (after j s c) (foldl changed h (byCall j s c))
   unfolding after byCall foldl

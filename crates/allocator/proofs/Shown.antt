@@ -2,7 +2,6 @@
 use Prim.Native.Nat.{ℕ}
 use mathlib.Core.Path.{_≡_, refl, sym, ap, _∙_, subst, fun-ext}
 use mathlib.Core.Option.{Option, none, some}
-use mathlib.Core.List.{List}
 use lib.Dec.{eqb-refl}
 use Rattle.reg_matrix.specs.Table.{Table, unitsOf}
 use Rattle.reg_matrix.specs.declared.ValueSegment.{ValueSegment}
@@ -14,10 +13,10 @@ use Rattle.reg_matrix.proofs.Cells.{Cell, entryFor, Laid, reserved, cell}
 use Rattle.reg_matrix.proofs.Whole.{cellOf}
 use Rattle.reg_matrix.proofs.Laws.{table-decided}
 use Rattle.job.specs.Model.{Job, segmentsOf, unitMap}
-use Rattle.job.proofs.Premises.{Premises, IsNumber, IsReg, UnitsWithin}
+use Rattle.job.proofs.Premises.{Premises, IsNumber, UnitsWithin}
 use Rattle.allocator.specs.State.{State}
 use Rattle.allocator.specs.Holding.{Holding}
-use Rattle.allocator.proofs.Holders.{none-some, same-some, cellsOf, cell-in, cell-out, TableOf}
+use Rattle.allocator.proofs.Holders.{none-some, same-some, HasUnit, cellsOf, cell-in, cell-out, TableOf}
 use Rattle.allocator.proofs.Agrees.{Agrees, holder-known}
 use Rattle.allocator.proofs.Rebuilt.{named-known}
 
@@ -26,12 +25,6 @@ abbrev numberIn : Reservation → ℕ
 numberIn (Held v i) = v
 numberIn (FixedUse x) = 0
 numberIn FixedDef = 0
-
--- v holds a register that has the unit u
-pub record HasUnit (j : Job) (h : Holding) (v u : ℕ) : Type 0 where
-  pub reg : ℕ
-  pub holds : h v ≡ some reg
-  pub unit : u ∈ unitsOf (unitMap j reg)
 
 module _ (j : Job) (p : Premises j) (s t : State) (g h : Holding) (a : Agrees j s g) (b : Agrees j t h) (same : s .table ≡ t .table) where
   -- a unit that v has in the one table it has in the other

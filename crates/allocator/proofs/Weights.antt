@@ -4,7 +4,7 @@ use native.Mathlib.Omega.{arith}
 use mathlib.Core.Path.{_≡_, refl, sym, subst}
 use mathlib.Core.Bool.{Bool, true, false, not, cond}
 use lib.Dec.{T, ltb}
-use lib.Ieee.{Float, nan, inf, fin, Format, binary32, prec, emax, low, odd, units, round, sum, add, ofFields, ofBits}
+use lib.Ieee.{Float, nan, inf, fin, Format, prec, emax, low, odd, units, round, sum, add, ofFields, ofBits}
 use lib.Ieee.Fits.{round-is}
 use Rattle.job.specs.Model.{zeroWeight}
 use Rattle.job.proofs.Premises.{Plain, Finite}
