@@ -10,3 +10,4 @@ pub mod Holding
 pub mod Demand
 pub mod Sheet
 pub mod Script
+pub mod EvictWalk
