@@ -11,7 +11,9 @@ use Rattle.reg_matrix.specs.declared.InterferenceKind.{InterferenceKind}
 use Rattle.reg_matrix.specs.declared.InterferenceKind.the-variants.{Fixed, VirtReg}
 use Rattle.job.specs.Model.{zeroWeight}
 use Rattle.allocator.specs.State.{Assignment, Assigned, Unassigned, Dead}
+use Rattle.reg_matrix.specs.Lists.{foldl, has}
 use Rattle.allocator.specs.Evict.{EvictCost, maxWeight}
+use Rattle.allocator.specs.declared.evict.Tried.{Tried}
 
 abbrev pub recordWeight : Assignment → Float
 recordWeight (Assigned f r w) = w
@@ -23,3 +25,31 @@ addHolder k w s = record { «preference_weight» = add binary32 (k .«preference
 
 abbrev pub mayEvict : Float → Bool → Float → Float → Bool
 mayEvict w flag spill own = lt spill own || (not flag && not (eq w zeroWeight))
+
+-- what a place past the records reads
+abbrev pub noRecord : Assignment
+noRecord = Assigned false 0 nan
+
+-- the cost with the holder v more
+abbrev pub holderCost : List Assignment → List Float → EvictCost → ℕ → EvictCost
+holderCost rs ss k v = addHolder k (recordWeight (getD rs v noRecord)) (getD ss v zeroWeight)
+
+abbrev pub zeroCost : EvictCost
+zeroCost = record { «preference_weight» = zeroWeight; «spill_weight» = zeroWeight }
+
+abbrev pub tried : EvictCost → List Bool → Bool → Tried
+tried k seen out = record { cost = k; holders = seen; «ruled_out» = out }
+
+abbrev pub onKind : InterferenceKind → Tried → (ℕ → Tried) → Tried
+onKind Fixed out more = out
+onKind (VirtReg v) out more = more v
+
+-- the reports one after another: a holder that was not seen yet adds its cost, and a fixed one ends it
+unfoldable pub tryReports : List Assignment → List Float → List Interference → EvictCost → List Bool → Tried
+tryReports rs ss [] k seen = tried k seen false
+tryReports rs ss (x ∷ xs) k seen =
+    onKind (x .kind) (tried k seen true)
+    (λ v. cond (ltb v 512 && not (getD seen v false)) (tryReports rs ss xs (holderCost rs ss k v) (set seen v true)) (tryReports rs ss xs k seen))
+
+unfoldable pub triedOf : List Assignment → List Float → List Interference → Tried
+triedOf rs ss xs = tryReports rs ss xs zeroCost (replicate 512 false)

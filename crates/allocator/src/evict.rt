@@ -5,6 +5,13 @@ ghost use Rattle.allocator.specs.EvictWalk.{recordWeight, addHolder, may
 use crate::Assignment;
 use crate::EvictCost;
 
+// What a candidate would cost: whom a check reports, each once, and whether a fixed report rules it out.
+pub struct Tried {
+    pub cost: EvictCost,
+    pub holders: [bool; 512],
+    pub ruled_out: bool,
+}
+
 // The weight with which a record holds its register, or 0.
 pub fn held_weight(a: Assignment) -> f32
     ensures { λ r. ⌜ r ≡ recordWeight a ⌝ }
