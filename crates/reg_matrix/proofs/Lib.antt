@@ -15,3 +15,5 @@ pub mod Capacity
 pub mod Spare
 pub mod Laws
 pub mod Halves
+pub mod Walks
+pub mod Starts
