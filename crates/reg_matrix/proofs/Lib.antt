@@ -14,3 +14,6 @@ pub mod Apart
 pub mod Capacity
 pub mod Spare
 pub mod Laws
+pub mod Halves
+pub mod Walks
+pub mod Starts

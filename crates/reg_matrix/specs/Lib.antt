@@ -6,3 +6,5 @@ pub mod Assign
 pub mod Questions
 pub mod Lines
 pub mod Layout
+pub mod Search
+pub mod Walk

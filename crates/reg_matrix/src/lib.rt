@@ -1,7 +1,10 @@
 // The reservation matrix: which virtual register or fixed operand has a register unit, and when (`reg_matrix.rs`, `live_range.rs`).
 // These are the types that the definitions and every contract above speak of.
 
+pub mod check;
 mod lent;
+mod ranges;
+mod search;
 mod words;
 
 // A part of a virtual register's live range, half-open, with the value that lives in it. A point's low two bits are its slot.
@@ -45,4 +48,33 @@ pub struct Interference {
     pub from: u32,
     pub to: u32,
     pub kind: InterferenceKind,
+}
+
+// A position of a check: the units of the register's map that are still to be walked, the current one the lowest; the segment and the
+// entry that are compared next; 0, or one more than the place of the next fixed use under that entry; and which form is asked for.
+pub struct Cursor {
+    pub units: u64,
+    pub segment: usize,
+    pub entry: usize,
+    pub inner: usize,
+    pub full: bool,
+}
+
+// One step of a check: it meets something and goes on, goes on, or ends.
+enum Move {
+    Meets(Interference, Cursor),
+    Goes(Cursor),
+    Ends,
+}
+
+// What a check answers: a report with the next position, or its end.
+pub enum Step {
+    Report(Interference, Cursor),
+    End,
+}
+
+// How a check starts: at a position, or refused with the refusal's number.
+pub enum Start {
+    Checking(Cursor),
+    Refused(u8),
 }
