@@ -1,2 +1,4 @@
 pub mod Opened
 pub mod Cases
+pub mod QueueLaws
+pub mod OrderLaws
