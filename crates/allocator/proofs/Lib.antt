@@ -18,3 +18,5 @@ pub mod EvictOrder
 pub mod Capacity
 pub mod NotBytes
 pub mod EvictLaws
+pub mod QueueLaws
+pub mod OrderLaws

@@ -5,6 +5,7 @@ pub mod Evict
 pub mod Dequeue
 pub mod Run
 pub mod Layout
+pub mod QueueWalk
 pub mod Calls
 pub mod Holding
 pub mod Demand

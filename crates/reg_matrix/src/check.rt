@@ -66,7 +66,7 @@ fn earlier(a: u32, b: u32) -> u32
 }
 
 // The position at the lowest unit of a map: its first entry that ends past the first segment's start.
-fn enter(ends: &[u64], froms: &[u32], units: u64, full: bool) -> Cursor
+pub fn enter(ends: &[u64], froms: &[u32], units: u64, full: bool) -> Cursor
     ensures { λ r. ⌜ r ≡ entered (now (ends .entry)) (now (froms .entry)) units full ⌝ }
 {
     let unit = wide(u64::trailing_zeros(units));
