@@ -13,6 +13,10 @@ use Rattle.reg_matrix.specs.Lists.{foldl, concatMap, any, has, keep}
 use Rattle.reg_matrix.specs.declared.Interference.{Interference}
 use Rattle.reg_matrix.specs.declared.InterferenceKind.{InterferenceKind}
 use Rattle.reg_matrix.specs.declared.InterferenceKind.the-variants.{Fixed, VirtReg}
+use Rattle.reg_matrix.specs.Walk.{Lent, remaining, heard}
+use Rattle.reg_matrix.specs.declared.Cursor.{Cursor}
+use Rattle.reg_matrix.specs.declared.Step.{Step}
+use Rattle.reg_matrix.specs.declared.Step.the-variants.{Report, End}
 use Rattle.job.specs.Model.{Job, zeroWeight}
 use Rattle.allocator.specs.State.{State, Assignment, heldBy, weightOf}
 use Rattle.allocator.specs.Evict.{EvictCost, cheaper, ruledOut, isFixed, holder, holders, firsts, maxWeight, spillWeight, weights, greatestSpill, costOf}
@@ -181,3 +185,35 @@ module _ (j : Job) (s : State) (rs : List Assignment) (ss : List Float)
           go : (b : Bool) → (b || false) ≡ b
           go true = refl
           go false = refl
+
+-- ---- one report of the code's loop: the rest of the walk from here is the whole
+
+module _ (W : Lent) (c : Cursor) (x : Step) (told : remaining W c ≡ heard W x) (r : Interference) (d : Cursor) (q : x ≡ Report r d) where
+  pub next-is : remaining W c ≡ r ∷ remaining W d
+  next-is = told ∙ rw q
+
+  pub next-less : length (remaining W d) < length (remaining W c)
+  next-less = rw next-is (omega arith)
+
+module _ (rs : List Assignment) (ss : List Float) (W : Lent) (c : Cursor) (x : Step) (k : EvictCost) (seen : List Bool) (told : remaining W c ≡ heard W x) where
+  pub try-end : x ≡ End → tried k seen false ≡ tryReports rs ss (remaining W c) k seen
+  unfolding tryReports
+  try-end q = rw (told, q)
+
+  module _ (r : Interference) (d : Cursor) (q : x ≡ Report r d) where
+    pub try-fixed : r .kind ≡ Fixed → tried k seen true ≡ tryReports rs ss (remaining W c) k seen
+    unfolding tryReports
+    try-fixed p = rw (next-is W c x told r d q, p)
+
+    module _ (v : ℕ) (p : r .kind ≡ VirtReg v) where
+      pub try-new : ltb v 512 ≡ true → getD seen v false ≡ false → tryReports rs ss (remaining W d) (holderCost rs ss k v) (set seen v true) ≡ tryReports rs ss (remaining W c) k seen
+      unfolding tryReports
+      try-new l n = rw (next-is W c x told r d q, p, l, n)
+
+      pub try-old : ltb v 512 ≡ true → getD seen v false ≡ true → tryReports rs ss (remaining W d) k seen ≡ tryReports rs ss (remaining W c) k seen
+      unfolding tryReports
+      try-old l n = rw (next-is W c x told r d q, p, l, n)
+
+      pub try-far : ltb v 512 ≡ false → tryReports rs ss (remaining W d) k seen ≡ tryReports rs ss (remaining W c) k seen
+      unfolding tryReports
+      try-far l = rw (next-is W c x told r d q, p, l)

@@ -1,9 +1,14 @@
 // Costs of an eviction (`evict.rs`): two weights held together and replaced together.
 ghost use mathlib.Core.Path.{_≡_};
 ghost use Rattle.allocator.specs.Evict.{maxWeight, cheaper};
-ghost use Rattle.allocator.specs.EvictWalk.{recordWeight, addHolder, mayEvict};
+ghost use Rattle.allocator.specs.EvictWalk.{recordWeight, addHolder, mayEvict, triedOf};
+ghost use Rattle.reg_matrix.specs.Walk.{lent, remaining};
 use crate::Assignment;
 use crate::EvictCost;
+use crate::lent::weight_at;
+use reg_matrix::Cursor;
+use reg_matrix::InterferenceKind;
+use reg_matrix::Step;
 
 // What a candidate would cost: whom a check reports, each once, and whether a fixed report rules it out.
 pub struct Tried {
@@ -71,4 +76,52 @@ pub fn may_evict(weight: f32, flag: bool, spill: f32, own: f32) -> bool
         return false;
     }
     if weight == 0.0 { false } else { true }
+}
+
+// The cost of evicting all that a check reports from a position on: each holder once, in the order of the reports.
+pub fn cost_of(
+    records: [Assignment; 512],
+    spills: &[f32],
+    start: Cursor,
+    ends: &[u64],
+    rests: &[u64],
+    uses: &[u64],
+    froms: &[u32],
+    tos: &[u32],
+    values: &[u16],
+) -> Tried
+    ensures { λ r. ⌜ r ≡ triedOf records (now (spills .entry)) (remaining (lent (now (ends .entry)) (now (rests .entry)) (now (uses .entry)) (now (froms .entry)) (now (tos .entry)) (now (values .entry))) start) ⌝ }
+{
+    let mut cost = EvictCost {
+        preference_weight: 0.0,
+        spill_weight: 0.0,
+    };
+    let mut holders = [false; 512];
+    let mut c = start;
+    loop {
+        let Step::Report(report, next) = c.next(ends, rests, uses, froms, tos, values) else {
+            return Tried {
+                cost,
+                holders,
+                ruled_out: false,
+            };
+        };
+        let kind = report.kind;
+        let InterferenceKind::VirtReg(v) = kind else {
+            return Tried {
+                cost,
+                holders,
+                ruled_out: true,
+            };
+        };
+        c = next;
+        let i = v as usize;
+        if i < 512 {
+            if !holders[i] {
+                holders[i] = true;
+                let a = records[i];
+                cost = add_holder(cost, held_weight(a), weight_at(spills, i));
+            }
+        }
+    }
 }
