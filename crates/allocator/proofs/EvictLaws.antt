@@ -20,7 +20,7 @@ use Rattle.reg_matrix.specs.declared.Step.the-variants.{Report, End}
 use Rattle.job.specs.Model.{Job, zeroWeight}
 use Rattle.allocator.specs.State.{State, Assignment, heldBy, weightOf}
 use Rattle.allocator.specs.Evict.{EvictCost, cheaper, ruledOut, isFixed, holder, holders, firsts, maxWeight, spillWeight, weights, greatestSpill, costOf}
-use Rattle.allocator.specs.EvictWalk.{recordWeight, noRecord, holderCost, zeroCost, tried, onKind, tryReports, triedOf}
+use Rattle.allocator.specs.EvictWalk.{recordWeight, noRecord, weightIn, holderCost, zeroCost, tried, onKind, tryReports, triedOf}
 use Rattle.allocator.specs.declared.evict.Tried.{Tried}
 
 -- of equal preference sums, the spill maximum decides
@@ -72,56 +72,69 @@ module _ (rs : List Assignment) (ss : List Float) where
   abbrev pub costOver : EvictCost → List ℕ → EvictCost
   costOver k vs = foldl (holderCost rs ss) k vs
 
+  -- and their weights, added one after another
+  abbrev pub sumOver : Float → List ℕ → Float
+  sumOver w vs = foldl (λ w v. add binary32 w (weightIn rs v)) w vs
+
   -- what the walk over reports of the holders hs finds, after those of vs
-  pub record Rule (hs : List ℕ) (k : EvictCost) (vs : List ℕ) (t : Tried) : Type 0 where
+  pub record Rule (hs : List ℕ) (k : EvictCost) (w : Float) (vs : List ℕ) (t : Tried) : Type 0 where
     pub clean : t .«ruled_out» ≡ false
     pub cost : t .cost ≡ costOver k (firsts vs hs)
+    pub every : t .«every_report» ≡ sumOver w hs
     pub who : Seen (t .holders) (before hs vs)
 
+  -- what one report of the holder v adds
+  abbrev more : List Interference → EvictCost → Float → List Bool → ℕ → Tried
+  more xs k w seen v =
+      cond (ltb v 512)
+      (cond (getD seen v false) (tryReports rs ss xs k (add binary32 w (weightIn rs v)) seen) (tryReports rs ss xs (holderCost rs ss k v) (add binary32 w (weightIn rs v)) (set seen v true)))
+      (tryReports rs ss xs k w seen)
+
   -- where no report is fixed: the cost of the holders not seen before, each at its first report, and all of them are seen then
-  pub rule : (xs : List Interference) (k : EvictCost) (seen : List Bool) (vs : List ℕ) → Small (holders xs) → Seen seen vs → ruledOut xs ≡ false
-      → Rule (holders xs) k vs (tryReports rs ss xs k seen)
+  pub rule : (xs : List Interference) (k : EvictCost) (w : Float) (seen : List Bool) (vs : List ℕ) → Small (holders xs) → Seen seen vs → ruledOut xs ≡ false
+      → Rule (holders xs) k w vs (tryReports rs ss xs k w seen)
   unfolding tryReports holders concatMap firsts ruledOut any foldl
-  rule [] k seen vs s f r = record { clean = refl; cost = refl; who = f }
-  rule (x ∷ xs) k seen vs s f r = step (x .kind) s r (λ k seen vs m f q. rule xs k seen vs m f q)
+  rule [] k w seen vs s f r = record { clean = refl; cost = refl; every = refl; who = f }
+  rule (x ∷ xs) k w seen vs s f r = step (x .kind) s r (λ k w seen vs m f q. rule xs k w seen vs m f q)
     where
       Rest : Type 0
-      Rest = (k : EvictCost) (seen : List Bool) (vs : List ℕ) → Small (holders xs) → Seen seen vs → ruledOut xs ≡ false → Rule (holders xs) k vs (tryReports rs ss xs k seen)
+      Rest =
+          (k : EvictCost) (w : Float) (seen : List Bool) (vs : List ℕ) → Small (holders xs) → Seen seen vs → ruledOut xs ≡ false
+          → Rule (holders xs) k w vs (tryReports rs ss xs k w seen)
 
       one : (v : ℕ) → v < 512 → Small (holders xs) → ruledOut xs ≡ false → Rest → (b : Bool) → getD seen v false ≡ b
-          → Rule (v ∷ holders xs) k vs (cond (ltb v 512 && not b) (tryReports rs ss xs (holderCost rs ss k v) (set seen v true)) (tryReports rs ss xs k seen))
+          → Rule (v ∷ holders xs) k w vs (cond (ltb v 512) (cond b (tryReports rs ss xs k (add binary32 w (weightIn rs v)) seen) (tryReports rs ss xs (holderCost rs ss k v) (add binary32 w (weightIn rs v)) (set seen v true))) (tryReports rs ss xs k w seen))
       one v h m q go true e =
-          let again : Rule (holders xs) k (v ∷ vs) (tryReports rs ss xs k seen) = go k seen (v ∷ vs) m (seen-again seen vs v e f) q in
+          let again = go k (add binary32 w (weightIn rs v)) seen (v ∷ vs) m (seen-again seen vs v e f) q in
           let known : has v vs ≡ true = sym (f .place v h) ∙ e in
-          rw (lt-ltb v 512 h) (record { clean = again .clean; cost = rw known (again .cost); who = again .who })
+          rw (lt-ltb v 512 h) (record { clean = again .clean; cost = rw known (again .cost); every = again .every; who = again .who })
       one v h m q go false e =
-          let more : Rule (holders xs) (holderCost rs ss k v) (v ∷ vs) (tryReports rs ss xs (holderCost rs ss k v) (set seen v true)) =
-          go (holderCost rs ss k v) (set seen v true) (v ∷ vs) m (seen-more seen vs v h f) q in
+          let later = go (holderCost rs ss k v) (add binary32 w (weightIn rs v)) (set seen v true) (v ∷ vs) m (seen-more seen vs v h f) q in
           let new : has v vs ≡ false = sym (f .place v h) ∙ e in
-          rw (lt-ltb v 512 h) (record { clean = more .clean; cost = rw new (more .cost); who = more .who })
+          rw (lt-ltb v 512 h) (record { clean = later .clean; cost = rw new (later .cost); every = later .every; who = later .who })
 
       step : (kd : InterferenceKind) → Small (holder kd ++ holders xs) → (isFixed kd || ruledOut xs) ≡ false → Rest
-          → Rule (holder kd ++ holders xs) k vs (onKind kd (tried k seen true) (λ v. cond (ltb v 512 && not (getD seen v false)) (tryReports rs ss xs (holderCost rs ss k v) (set seen v true)) (tryReports rs ss xs k seen)))
+          → Rule (holder kd ++ holders xs) k w vs (onKind kd (tried k w seen true) (more xs k w seen))
       step Fixed s r go = let z : _≡_ {A = ℕ} 0 1 = cc in absurd (omega arith)
       step (VirtReg v) s r go = one v (s .0) (s .1) r go (getD seen v false) refl
 
   -- where one is fixed, the walk says so
-  pub rule-out : (xs : List Interference) (k : EvictCost) (seen : List Bool) → ruledOut xs ≡ true → tryReports rs ss xs k seen .«ruled_out» ≡ true
+  pub rule-out : (xs : List Interference) (k : EvictCost) (w : Float) (seen : List Bool) → ruledOut xs ≡ true → tryReports rs ss xs k w seen .«ruled_out» ≡ true
   unfolding tryReports ruledOut any
-  rule-out [] k seen r = let z : _≡_ {A = ℕ} 0 1 = cc in absurd (omega arith)
-  rule-out (x ∷ xs) k seen r = step (x .kind) r (λ k seen q. rule-out xs k seen q)
+  rule-out [] k w seen r = let z : _≡_ {A = ℕ} 0 1 = cc in absurd (omega arith)
+  rule-out (x ∷ xs) k w seen r = step (x .kind) r (λ k w seen q. rule-out xs k w seen q)
     where
       Rest : Type 0
-      Rest = (k : EvictCost) (seen : List Bool) → ruledOut xs ≡ true → tryReports rs ss xs k seen .«ruled_out» ≡ true
+      Rest = (k : EvictCost) (w : Float) (seen : List Bool) → ruledOut xs ≡ true → tryReports rs ss xs k w seen .«ruled_out» ≡ true
 
       either-way : (b : Bool) (t u : Tried) → t .«ruled_out» ≡ true → u .«ruled_out» ≡ true → cond b t u .«ruled_out» ≡ true
       either-way true t u p q = p
       either-way false t u p q = q
 
-      step : (kd : InterferenceKind) → (isFixed kd || ruledOut xs) ≡ true → Rest
-          → onKind kd (tried k seen true) (λ v. cond (ltb v 512 && not (getD seen v false)) (tryReports rs ss xs (holderCost rs ss k v) (set seen v true)) (tryReports rs ss xs k seen)) .«ruled_out» ≡ true
+      step : (kd : InterferenceKind) → (isFixed kd || ruledOut xs) ≡ true → Rest → onKind kd (tried k w seen true) (more xs k w seen) .«ruled_out» ≡ true
       step Fixed r go = refl
-      step (VirtReg v) r go = either-way (ltb v 512 && not (getD seen v false)) _ _ (go (holderCost rs ss k v) (set seen v true) r) (go k seen r)
+      step (VirtReg v) r go =
+          either-way (ltb v 512) _ _ (either-way (getD seen v false) _ _ (go k (add binary32 w (weightIn rs v)) seen r) (go (holderCost rs ss k v) (add binary32 w (weightIn rs v)) (set seen v true) r)) (go k w seen r)
 
 -- ---- the rule's cost and evictees
 
@@ -154,6 +167,11 @@ module _ (j : Job) (s : State) (rs : List Assignment) (ss : List Float)
       rw (held v (m .0), spill v (m .0)) in
       cost-over (holderCost rs ss k v) vs (m .1) ∙ ap (λ (c : EvictCost). ruleCost c vs) one
 
+  sum-over : (w : Float) (vs : List ℕ) → Small vs → sumOver rs ss w vs ≡ foldl (λ w v. add binary32 w (weightOf (heldBy s v))) w vs
+  unfolding foldl
+  sum-over w [] m = refl
+  sum-over w (v ∷ vs) m = rw (held v (m .0)) (sum-over (add binary32 w (weightOf (heldBy s v))) vs (m .1))
+
   first-small : (seen hs : List ℕ) → Small hs → Small (firsts seen hs)
   unfolding firsts
   first-small seen [] m = tt
@@ -167,15 +185,17 @@ module _ (j : Job) (s : State) (rs : List Assignment) (ss : List Float)
   pub record Found (xs : List Interference) (t : Tried) : Type 0 where
     pub clean : t .«ruled_out» ≡ false
     pub cost : t .cost ≡ costOf j s xs
+    pub every : t .«every_report» ≡ weights s (holders xs)
     pub who : (v : ℕ) → v < 512 → getD (t .holders) v false ≡ has v (holders xs)
 
   pub found : (xs : List Interference) → Small (holders xs) → ruledOut xs ≡ false → Found xs (triedOf rs ss xs)
   unfolding triedOf costOf weights greatestSpill has
   found xs m r =
-      let q : Rule rs ss (holders xs) zeroCost [] (tryReports rs ss xs zeroCost (replicate 512 false)) = rule rs ss xs zeroCost (replicate 512 false) [] m none-seen r in
+      let q = rule rs ss xs zeroCost zeroWeight (replicate 512 false) [] m none-seen r in
       record {
         clean = q .clean;
         cost = q .cost ∙ cost-over zeroCost (firsts [] (holders xs)) (first-small [] (holders xs) m);
+        every = q .every ∙ sum-over zeroWeight (holders xs) m;
         who = λ v h. q .who .place v h ∙ has-before v (holders xs) [] ∙ or-none v;
       }
     where
@@ -195,25 +215,26 @@ module _ (W : Lent) (c : Cursor) (x : Step) (told : remaining W c ≡ heard W x)
   pub next-less : length (remaining W d) < length (remaining W c)
   next-less = rw next-is (omega arith)
 
-module _ (rs : List Assignment) (ss : List Float) (W : Lent) (c : Cursor) (x : Step) (k : EvictCost) (seen : List Bool) (told : remaining W c ≡ heard W x) where
-  pub try-end : x ≡ End → tried k seen false ≡ tryReports rs ss (remaining W c) k seen
+module _ (rs : List Assignment) (ss : List Float) (W : Lent) (c : Cursor) (x : Step) (k : EvictCost) (w : Float) (seen : List Bool) (told : remaining W c ≡ heard W x) where
+  pub try-end : x ≡ End → tried k w seen false ≡ tryReports rs ss (remaining W c) k w seen
   unfolding tryReports
   try-end q = rw (told, q)
 
   module _ (r : Interference) (d : Cursor) (q : x ≡ Report r d) where
-    pub try-fixed : r .kind ≡ Fixed → tried k seen true ≡ tryReports rs ss (remaining W c) k seen
+    pub try-fixed : r .kind ≡ Fixed → tried k w seen true ≡ tryReports rs ss (remaining W c) k w seen
     unfolding tryReports
     try-fixed p = rw (next-is W c x told r d q, p)
 
     module _ (v : ℕ) (p : r .kind ≡ VirtReg v) where
-      pub try-new : ltb v 512 ≡ true → getD seen v false ≡ false → tryReports rs ss (remaining W d) (holderCost rs ss k v) (set seen v true) ≡ tryReports rs ss (remaining W c) k seen
+      pub try-new : ltb v 512 ≡ true → getD seen v false ≡ false
+          → tryReports rs ss (remaining W d) (holderCost rs ss k v) (add binary32 w (weightIn rs v)) (set seen v true) ≡ tryReports rs ss (remaining W c) k w seen
       unfolding tryReports
       try-new l n = rw (next-is W c x told r d q, p, l, n)
 
-      pub try-old : ltb v 512 ≡ true → getD seen v false ≡ true → tryReports rs ss (remaining W d) k seen ≡ tryReports rs ss (remaining W c) k seen
+      pub try-old : ltb v 512 ≡ true → getD seen v false ≡ true → tryReports rs ss (remaining W d) k (add binary32 w (weightIn rs v)) seen ≡ tryReports rs ss (remaining W c) k w seen
       unfolding tryReports
       try-old l n = rw (next-is W c x told r d q, p, l, n)
 
-      pub try-far : ltb v 512 ≡ false → tryReports rs ss (remaining W d) k seen ≡ tryReports rs ss (remaining W c) k seen
+      pub try-far : ltb v 512 ≡ false → tryReports rs ss (remaining W d) k w seen ≡ tryReports rs ss (remaining W c) k w seen
       unfolding tryReports
       try-far l = rw (next-is W c x told r d q, p, l)

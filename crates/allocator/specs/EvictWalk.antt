@@ -37,19 +37,27 @@ holderCost rs ss k v = addHolder k (recordWeight (getD rs v noRecord)) (getD ss 
 abbrev pub zeroCost : EvictCost
 zeroCost = record { «preference_weight» = zeroWeight; «spill_weight» = zeroWeight }
 
-abbrev pub tried : EvictCost → List Bool → Bool → Tried
-tried k seen out = record { cost = k; holders = seen; «ruled_out» = out }
+abbrev pub tried : EvictCost → Float → List Bool → Bool → Tried
+tried k w seen out = record { cost = k; «every_report» = w; holders = seen; «ruled_out» = out }
+
+-- the weight with which v holds its register
+abbrev pub weightIn : List Assignment → ℕ → Float
+weightIn rs v = recordWeight (getD rs v noRecord)
 
 abbrev pub onKind : InterferenceKind → Tried → (ℕ → Tried) → Tried
 onKind Fixed out more = out
 onKind (VirtReg v) out more = more v
 
--- the reports one after another: a holder that was not seen yet adds its cost, and a fixed one ends it
-unfoldable pub tryReports : List Assignment → List Float → List Interference → EvictCost → List Bool → Tried
-tryReports rs ss [] k seen = tried k seen false
-tryReports rs ss (x ∷ xs) k seen =
-    onKind (x .kind) (tried k seen true)
-    (λ v. cond (ltb v 512 && not (getD seen v false)) (tryReports rs ss xs (holderCost rs ss k v) (set seen v true)) (tryReports rs ss xs k seen))
+-- The reports one after another: a holder that was not seen yet adds its cost, every report adds the holder's weight to w, and a fixed one ends
+-- it. Numbers from 512 on, which no table has, are passed over.
+unfoldable pub tryReports : List Assignment → List Float → List Interference → EvictCost → Float → List Bool → Tried
+tryReports rs ss [] k w seen = tried k w seen false
+tryReports rs ss (x ∷ xs) k w seen =
+    onKind (x .kind) (tried k w seen true)
+    (λ v.
+    cond (ltb v 512)
+    (cond (getD seen v false) (tryReports rs ss xs k (add binary32 w (weightIn rs v)) seen) (tryReports rs ss xs (holderCost rs ss k v) (add binary32 w (weightIn rs v)) (set seen v true)))
+    (tryReports rs ss xs k w seen))
 
 unfoldable pub triedOf : List Assignment → List Float → List Interference → Tried
-triedOf rs ss xs = tryReports rs ss xs zeroCost (replicate 512 false)
+triedOf rs ss xs = tryReports rs ss xs zeroCost zeroWeight (replicate 512 false)

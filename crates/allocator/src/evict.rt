@@ -10,9 +10,11 @@ use reg_matrix::Cursor;
 use reg_matrix::InterferenceKind;
 use reg_matrix::Step;
 
-// What a candidate would cost: whom a check reports, each once, and whether a fixed report rules it out.
+// What a check's reports say of a candidate: the cost with each holder counted once, the holders' weights added at every report, who the
+// holders are, and whether a fixed report rules the candidate out.
 pub struct Tried {
     pub cost: EvictCost,
+    pub every_report: f32,
     pub holders: [bool; 512],
     pub ruled_out: bool,
 }
@@ -78,8 +80,8 @@ pub fn may_evict(weight: f32, flag: bool, spill: f32, own: f32) -> bool
     if weight == 0.0 { false } else { true }
 }
 
-// The cost of evicting all that a check reports from a position on: each holder once, in the order of the reports.
-pub fn cost_of(
+// What a check reports from a position on: each holder once for the cost, and at every report for the sum, in the order of the reports.
+pub fn try_reports(
     records: [Assignment; 512],
     spills: &[f32],
     start: Cursor,
@@ -96,12 +98,14 @@ pub fn cost_of(
         preference_weight: 0.0,
         spill_weight: 0.0,
     };
+    let mut every_report = 0.0;
     let mut holders = [false; 512];
     let mut c = start;
     loop {
         let Step::Report(report, next) = c.next(ends, rests, uses, froms, tos, values) else {
             return Tried {
                 cost,
+                every_report,
                 holders,
                 ruled_out: false,
             };
@@ -110,6 +114,7 @@ pub fn cost_of(
         let InterferenceKind::VirtReg(v) = kind else {
             return Tried {
                 cost,
+                every_report,
                 holders,
                 ruled_out: true,
             };
@@ -117,10 +122,12 @@ pub fn cost_of(
         c = next;
         let i = v as usize;
         if i < 512 {
+            let a = records[i];
+            let held = held_weight(a);
+            every_report = every_report + held;
             if !holders[i] {
                 holders[i] = true;
-                let a = records[i];
-                cost = add_holder(cost, held_weight(a), weight_at(spills, i));
+                cost = add_holder(cost, held, weight_at(spills, i));
             }
         }
     }
