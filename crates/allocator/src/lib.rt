@@ -2,6 +2,7 @@
 // These are the types that the definitions and contracts speak of.
 
 mod lent;
+mod order;
 mod queue;
 
 // How a virtual register stands. The flag is on once it has evicted another for its preference; the weight says how much it likes the
