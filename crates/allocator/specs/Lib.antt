@@ -6,6 +6,7 @@ pub mod Dequeue
 pub mod Run
 pub mod Layout
 pub mod QueueWalk
+pub mod OrderWalk
 pub mod Calls
 pub mod Holding
 pub mod Demand

@@ -3,6 +3,7 @@
 
 mod evict;
 mod lent;
+mod order;
 mod queue;
 
 // How a virtual register stands. The flag is on once it has evicted another for its preference; the weight says how much it likes the
