@@ -20,3 +20,4 @@ pub mod NotBytes
 pub mod EvictLaws
 pub mod QueueLaws
 pub mod OrderLaws
+pub mod AllocateLaws

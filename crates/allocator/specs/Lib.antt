@@ -13,3 +13,4 @@ pub mod Demand
 pub mod Sheet
 pub mod Script
 pub mod EvictWalk
+pub mod AllocateWalk

@@ -1,6 +1,7 @@
 // The allocator: candidates, queue, eviction, runs and direct calls (`allocator/mod.rs`, `order.rs`, `queue.rs`, `evict.rs`).
 // These are the types that the definitions and contracts speak of.
 
+mod allocate;
 mod evict;
 mod lent;
 mod order;

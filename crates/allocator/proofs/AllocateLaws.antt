@@ -1,0 +1,62 @@
+-- Laws of a dequeue's decision in the code. Assumes nothing.
+use Prim.Native.Nat.{ℕ, _+_, _-_, _≤_}
+use native.Mathlib.Omega.{arith}
+use borrow.Author.Tests.{le-ltb}
+use mathlib.Core.Path.{_≡_, refl, ap, sym, _∙_}
+use mathlib.Core.List.{List, [], _∷_}
+use mathlib.Core.Bool.{Bool, true, false, cond}
+use lib.Dec.{ltb}
+use lib.ListN.{length, getD}
+use Rattle.reg_matrix.specs.Lists.{isNil}
+use Rattle.reg_matrix.specs.Walk.{Lent, remaining, heard, entered}
+use Rattle.reg_matrix.specs.declared.Interference.{Interference}
+use Rattle.reg_matrix.specs.declared.Cursor.{Cursor}
+use Rattle.reg_matrix.specs.declared.Step.{Step}
+use Rattle.reg_matrix.specs.declared.Step.the-variants.{Report, End}
+use Rattle.allocator.specs.State.{CandidateReg}
+use Rattle.allocator.specs.OrderWalk.{offerAt, offersFrom, Offered, Skip, End as NoMore}
+use Rattle.allocator.specs.AllocateWalk.{reportsOn, clearOn, noneOf, availableIn}
+use Rattle.allocator.specs.declared.allocate.Available.the-variants.{Clear}
+use Rattle.allocator.proofs.OrderLaws.{offers-step}
+
+module _ (W : Lent) (units : ℕ) (c : Cursor) (x : Step) (starts : c ≡ entered (W .ends) (W .froms) units false) (told : remaining W c ≡ heard W x) where
+  -- the first report of a check decides whether it is clear
+  pub clear-end : x ≡ End → true ≡ isNil (reportsOn W units)
+  unfolding reportsOn
+  clear-end q = rw (← starts, told, q)
+
+  pub clear-report : (r : Interference) (d : Cursor) → x ≡ Report r d → false ≡ isNil (reportsOn W units)
+  unfolding reportsOn
+  clear-report r d q = rw (← starts, told, q)
+
+-- a test of the units that were read for a candidate's register
+pub clear-is : (W : Lent) (maps : List ℕ) (c : CandidateReg) (n units : ℕ) (b t : Bool) → n ≡ c .reg → units ≡ getD maps n 0 → b ≡ isNil (reportsOn W units) → b ≡ t → clearOn W maps c ≡ t
+unfolding clearOn
+clear-is W maps c n units b t p q r e = rw (← p, ← q, ← r) e
+
+-- ---- one candidate of the walk for a clear one: the rest from here is the whole
+
+module _ (W : Lent) (maps : List ℕ) (hs : List CandidateReg) (class : List ℕ) (i : ℕ) (t : Bool) where
+  pub available-end : offerAt hs class i ≡ NoMore → noneOf t ≡ availableIn W maps t (offersFrom hs class i)
+  unfolding availableIn
+  available-end q = rw (offers-step hs class i, q)
+
+  pub available-skip : offerAt hs class i ≡ Skip → availableIn W maps t (offersFrom hs class (i + 1)) ≡ availableIn W maps t (offersFrom hs class i)
+  available-skip q = rw (offers-step hs class i, q)
+
+  module _ (c : CandidateReg) (q : offerAt hs class i ≡ Offered c) where
+    pub available-clear : clearOn W maps c ≡ true → Clear c ≡ availableIn W maps t (offersFrom hs class i)
+    unfolding availableIn
+    available-clear p = rw (offers-step hs class i, q, p)
+
+    pub available-not : clearOn W maps c ≡ false → availableIn W maps true (offersFrom hs class (i + 1)) ≡ availableIn W maps t (offersFrom hs class i)
+    unfolding availableIn
+    available-not p = rw (offers-step hs class i, q, p)
+
+  -- past the hinted candidates and the class there is none
+  pub available-past : length hs + length class ≤ i → noneOf t ≡ availableIn W maps t (offersFrom hs class i)
+  unfolding offerAt
+  available-past h =
+      let a : ltb i (length hs) ≡ false = le-ltb i (length hs) (omega arith) in
+      let b : ltb (i - length hs) (length class) ≡ false = le-ltb (i - length hs) (length class) (omega arith) in
+      available-end (rw (a, b))
