@@ -4,21 +4,24 @@ use Prim.Native.Nat.{ℕ, zero, suc, _+_, _*_, _^_, _-_, _/_, _%_, _≤_, _<_, m
 use native.Mathlib.Decide.{decLt, ℕ-discrete}
 use native.Mathlib.Omega.{arith}
 use native.Mathlib.Nat.{add-zero}
+use native.Mathlib.Numerals.{add-one}
 use mathlib.Core.Path.{_≡_, refl, ap, sym, _∙_}
 use mathlib.Core.Logic.{_⊎_, inl, inr, ⊎-elim}
 use mathlib.Core.List.{List, [], _∷_, _++_, map}
 use mathlib.Core.Option.{Option, none, some}
 use mathlib.Core.Bool.{Bool, true, false, not, cond}
-use lib.Dec.{eqb, ltb}
-use lib.ListN.{length, take, drop, getD, set, length-append, length-take, length-drop, length-set, length-map, take-append-drop, drop-of-length-le, List·getD-append}
-use lib.Seq.{getD-set-same, getD-set-other, set-append-left, drop-set-lt, drop-set-add, take-set-le, getD-take, getD-drop, getD-append-add, take-at, drop-at, drop-cons, ext-getD}
-use borrow.Author.Tests.{lt-ltb, le-ltb, eq-eqb, ne-eqb, ltb-true, ltb-false}
-use Rattle.reg_matrix.specs.Lists.{count, isNil}
-use Rattle.job.specs.Model.{Job, virtReg}
-use Rattle.allocator.specs.State.{State, Stage, Evict, Split}
-use Rattle.allocator.specs.Queue.{stageBit, encode, Queued, ahead, orAhead, nextFrom}
+use lib.Dec.{ltb}
+use lib.ListN.{length, take, drop, getD, set, length-append, length-take, length-drop, length-set, length-map, take-append-drop, drop-of-length-le, List·getD-append, List·getD-map, replicate, length-replicate, getD-replicate}
+use lib.Seq.{getD-set-same, getD-set-other, set-append-left, drop-set-lt, drop-set-add, getD-take, getD-drop, getD-append-add, drop-at, drop-cons, ext-getD}
+use borrow.Author.Tests.{lt-ltb, le-ltb, ne-eqb, ltb-true, ltb-false}
+use Rattle.reg_matrix.specs.Lists.{count, isNil, padded}
+use Rattle.job.specs.declared.Hint.{Hint}
+use Rattle.job.specs.Model.{Job, VirtReg, noVirtReg, virtReg}
+use Rattle.job.specs.Layout.{startsFrom, jobBuffers}
+use Rattle.allocator.specs.State.{State, Stage, Evict, Split, freshState}
+use Rattle.allocator.specs.Queue.{encode, Queued, ahead, nextFrom}
 use Rattle.allocator.specs.Layout.{pairMax, rounds}
-use Rattle.allocator.specs.QueueWalk.{Next, Nobody, Number, keyOf, decoded, playAt, climb, setWord, leavesFrom, playFrom, filled, wordOf, tournament, nextNumber}
+use Rattle.allocator.specs.QueueWalk.{Number, keyOf, decoded, playAt, climb, setWord, firstWord, leavesFrom, playFrom, filled, wordOf, tournament, nextNumber}
 
 -- ---- one step of each loop
 
@@ -522,3 +525,82 @@ key-is j v q hints e = rw (e, cond-not (isNil (virtReg j v .hints)) (2 ^ 62) 0)
     cond-not : (b : Bool) (x y : ℕ) → cond (not b) x y ≡ cond b y x
     cond-not true x y = refl
     cond-not false x y = refl
+
+-- ---- the queue as loading leaves it
+
+module _ {A : Type 0} where
+  starts-first : (f : A → ℕ) (a : ℕ) (xs : List A) → getD (startsFrom f a xs) 0 0 ≡ a
+  unfolding startsFrom
+  starts-first f a [] = refl
+  starts-first f a (x ∷ xs) = refl
+
+  starts-next : (f : A → ℕ) (a : ℕ) (xs : List A) (d : A) (i : ℕ) → i < length xs → getD (startsFrom f a xs) (suc i) 0 ≡ getD (startsFrom f a xs) i 0 + f (getD xs i d)
+  unfolding startsFrom
+  starts-next f a [] d i h = absurd (omega arith)
+  starts-next f a (x ∷ xs) d zero h = starts-first f (a + f x) xs
+  starts-next f a (x ∷ xs) d (suc i) h = starts-next f (a + f x) xs d i (omega arith)
+
+  starts-length : (f : A → ℕ) (a : ℕ) (xs : List A) → length (startsFrom f a xs) ≡ suc (length xs)
+  unfolding startsFrom
+  starts-length f a [] = refl
+  starts-length f a (x ∷ xs) = ap suc (starts-length f (a + f x) xs)
+
+  padded-at : (n : ℕ) (d e : A) (xs : List A) (i : ℕ) → i < length xs → getD (padded n d xs) i e ≡ getD xs i e
+  unfolding padded
+  padded-at n d e xs i h = List·getD-append xs (replicate (n - length xs) d) e i h
+
+  only-default : (n : ℕ) (d : A) (i : ℕ) → getD (replicate n d) i d ≡ d
+  only-default zero d i = refl
+  only-default (suc n) d zero = refl
+  only-default (suc n) d (suc i) = only-default n d i
+
+  padded-past : (n : ℕ) (d : A) (xs : List A) (i : ℕ) → length xs ≤ i → getD (padded n d xs) i d ≡ d
+  unfolding padded
+  padded-past n d xs i h =
+      let e : length xs + (i - length xs) ≡ i = omega arith in
+      rw e at (getD-append-add xs (replicate (n - length xs) d) (i - length xs) d) ∙ only-default (n - length xs) d (i - length xs)
+
+-- a virtual register has hints where the next one's start is greater
+more-starts : (hs : List Hint) (a : ℕ) → ltb a (a + length hs) ≡ not (isNil hs)
+more-starts [] a = le-ltb a (a + 0) (omega arith)
+more-starts (h ∷ hs) a = lt-ltb a (a + suc (length hs)) (omega arith)
+
+module _ (j : Job) (few : length (j .virtRegs) ≤ 512) (starts sizes : List ℕ) (here : take 513 starts ≡ jobBuffers j .hintStarts) (there : take 512 sizes ≡ jobBuffers j .sizes) where
+  start-at : (v : ℕ) → v ≤ length (j .virtRegs) → getD starts v 0 ≡ getD (startsFrom (λ (x : VirtReg). length (x .hints)) 0 (j .virtRegs)) v 0
+  unfolding jobBuffers
+  start-at v h =
+      sym (getD-take 513 starts v 0 (omega arith)) ∙ ap (λ l. getD l v 0) here
+      ∙ padded-at 513 0 0 (startsFrom (λ (x : VirtReg). length (x .hints)) 0 (j .virtRegs)) v (omega (arith, starts-length (λ (x : VirtReg). length (x .hints)) 0 (j .virtRegs)))
+
+  size-at : (v : ℕ) → v < length (j .virtRegs) → getD sizes v 0 ≡ virtReg j v .size
+  unfolding jobBuffers virtReg
+  size-at v h =
+      sym (getD-take 512 sizes v 0 (omega arith)) ∙ ap (λ l. getD l v 0) there
+      ∙ padded-at 512 0 0 (map (λ (x : VirtReg). x .size) (j .virtRegs)) v (omega (arith, length-map (j .virtRegs) (λ (x : VirtReg). x .size)))
+      ∙ List·getD-map (λ (x : VirtReg). x .size) (j .virtRegs) v noVirtReg
+
+  has-hints : (v : ℕ) → v < length (j .virtRegs) → ltb (getD starts v 0) (getD starts (v + 1) 0) ≡ not (isNil (virtReg j v .hints))
+  unfolding virtReg
+  has-hints v h =
+      let s = startsFrom (λ (x : VirtReg). length (x .hints)) 0 (j .virtRegs) in
+      rw (start-at v (omega arith), start-at (v + 1) (omega arith), add-one, starts-next (λ (x : VirtReg). length (x .hints)) 0 (j .virtRegs) noVirtReg v h)
+      (more-starts (getD (j .virtRegs) v noVirtReg .hints) (getD s v 0))
+
+  first-word : (v : ℕ) → v < 512 → firstWord (length (j .virtRegs)) starts sizes v ≡ wordOf j v (getD (freshState j .queued) v none)
+  unfolding firstWord freshState
+  first-word v b = go (ltb v (length (j .virtRegs))) refl
+    where
+      go : (t : Bool) → ltb v (length (j .virtRegs)) ≡ t
+          → cond t (keyOf v (ltb (getD starts v 0) (getD starts (v + 1) 0)) (getD sizes v 0) Evict + 1) 0 ≡ wordOf j v (getD (padded 512 none (replicate (length (j .virtRegs)) (some Evict))) v none)
+      go true e =
+          let h : v < length (j .virtRegs) = ltb-true _ _ e in
+          let q : getD (padded 512 none (replicate (length (j .virtRegs)) (some Evict))) v none ≡ some Evict =
+          padded-at 512 none none (replicate (length (j .virtRegs)) (some Evict)) v (omega (arith, length-replicate (length (j .virtRegs)) (some Evict)))
+          ∙ getD-replicate (length (j .virtRegs)) v (some Evict) none h in
+          rw (q, size-at v h) (ap (λ x. x + 1) (key-is j v Evict (ltb (getD starts v 0) (getD starts (v + 1) 0)) (has-hints v h)))
+      go false e =
+          let h : length (j .virtRegs) ≤ v = ltb-false _ _ e in
+          rw (padded-past 512 none (replicate (length (j .virtRegs)) (some Evict)) v (omega (arith, length-replicate (length (j .virtRegs)) (some Evict))))
+
+  pub fresh-tournament : (b : List ℕ) → 1024 ≤ length b → filled (firstWord (length (j .virtRegs)) starts sizes) b ≡ tournament j (freshState j) ++ drop 1024 b
+  fresh-tournament b l = filled-tournament j (freshState j) (firstWord (length (j .virtRegs)) starts sizes) b l first-word

@@ -1,8 +1,8 @@
 -- The queue's words, in the shape of the code of src/queue.rt; proofs/QueueLaws.antt ties these to Queue.antt and Layout.antt. Assumes nothing.
 use Prim.Native.Nat.{ℕ, zero, suc, _+_, _*_, _^_, _-_, _/_, _%_, min, max}
-use mathlib.Core.List.{List, [], _∷_, map}
+use mathlib.Core.List.{List, _∷_, map}
 use mathlib.Core.Option.{Option, none, some}
-use mathlib.Core.Bool.{Bool, true, false, cond}
+use mathlib.Core.Bool.{Bool, cond}
 use lib.Dec.{eqb, ltb}
 use lib.ListN.{getD, set}
 use Rattle.reg_matrix.specs.Lists.{count}

@@ -2,11 +2,10 @@
 // then its class. The hinted ones stand in two slices that the caller lends for it, 65 long each, so that none is ever copied.
 ghost use mathlib.Core.Path.{_≡_};
 ghost use Prim.Native.Nat.{ℕ, _+_, _≤_, _<_, min};
-ghost use mathlib.Core.Bool.{cond, _||_};
+ghost use mathlib.Core.Bool.{_||_};
 ghost use mathlib.Core.List.{List};
 ghost use lib.Dec.{eqb};
-ghost use lib.Ieee.{binary32, ofBits};
-ghost use lib.ListN.{length, take, getD};
+ghost use lib.ListN.{length, take};
 ghost use Rattle.reg_matrix.specs.Lists.{bit, has};
 ghost use Rattle.allocator.specs.State.{CandidateReg};
 ghost use Rattle.allocator.specs.Order.{addHint, orLast, highestPreference};

@@ -1,6 +1,5 @@
 use borrow.Author.Needs.{needs}
-use native.Mathlib.Omega.{arith}
-use mathlib.Core.Path.{_∙_, sym, ap}
+use mathlib.Core.Path.{_∙_, sym}
 use mathlib.Core.Bool.{true, false}
 use Rattle.allocator.proofs.OrderLaws as laws
 use Rattle.allocator.proofs.order.candidate.Statement.{statement}

@@ -1,6 +1,4 @@
 use borrow.Author.Needs.{needs}
-use mathlib.Core.Path.{_∙_, sym}
-use Rattle.allocator.proofs.OrderLaws as laws
 use Rattle.allocator.proofs.order.is_hinted.Statement.{statement}
 use Rattle.allocator.proofs.order.is_hinted.Tie as tie
 
