@@ -2,20 +2,24 @@
 use Prim.Native.Nat.{ℕ, _+_, _-_, _≤_}
 use native.Mathlib.Omega.{arith}
 use borrow.Author.Tests.{le-ltb}
-use mathlib.Core.Path.{_≡_, refl, ap, sym, _∙_}
+use mathlib.Core.Path.{_≡_, ap, sym, subst, _∙_}
 use mathlib.Core.List.{List, [], _∷_}
 use mathlib.Core.Bool.{Bool, true, false, cond}
 use lib.Dec.{ltb}
+use lib.Ieee.{Float}
 use lib.ListN.{length, getD}
-use Rattle.reg_matrix.specs.Lists.{isNil}
+use Rattle.reg_matrix.specs.Lists.{isNil, foldl}
 use Rattle.reg_matrix.specs.Walk.{Lent, remaining, heard, entered}
 use Rattle.reg_matrix.specs.declared.Interference.{Interference}
 use Rattle.reg_matrix.specs.declared.Cursor.{Cursor}
 use Rattle.reg_matrix.specs.declared.Step.{Step}
 use Rattle.reg_matrix.specs.declared.Step.the-variants.{Report, End}
-use Rattle.allocator.specs.State.{CandidateReg}
+use Rattle.allocator.specs.State.{CandidateReg, Assignment}
+use Rattle.allocator.specs.EvictWalk.{triedOf}
+use Rattle.allocator.specs.declared.evict.Tried.{Tried}
+use Rattle.allocator.specs.declared.allocate.Best.{Best}
 use Rattle.allocator.specs.OrderWalk.{offerAt, offersFrom, Offered, Skip, End as NoMore}
-use Rattle.allocator.specs.AllocateWalk.{reportsOn, clearOn, noneOf, availableIn}
+use Rattle.allocator.specs.AllocateWalk.{reportsOn, clearOn, noneOf, availableIn, triedOn, taking, improves, betterIn, evictIn}
 use Rattle.allocator.specs.declared.allocate.Available.the-variants.{Clear}
 use Rattle.allocator.proofs.OrderLaws.{offers-step}
 
@@ -60,3 +64,46 @@ module _ (W : Lent) (maps : List ℕ) (hs : List CandidateReg) (class : List ℕ
       let a : ltb i (length hs) ≡ false = le-ltb i (length hs) (omega arith) in
       let b : ltb (i - length hs) (length class) ≡ false = le-ltb (i - length hs) (length class) (omega arith) in
       available-end (rw (a, b))
+
+-- what was tried on the units that were read for a candidate's register
+pub tried-is : (W : Lent) (maps : List ℕ) (rs : List Assignment) (ss : List Float) (c : CandidateReg) (n units : ℕ) (t : Tried)
+    → n ≡ c .reg → units ≡ getD maps n 0 → t ≡ triedOf rs ss (reportsOn W units) → t ≡ triedOn W maps rs ss c
+unfolding triedOn
+tried-is W maps rs ss c n units t p q r = r ∙ rw (q, p)
+
+-- ---- one candidate of the search for a register to evict from
+
+module _ (W : Lent) (maps : List ℕ) (rs : List Assignment) (ss : List Float) (flag : Bool) (own : Float) (hs : List CandidateReg) (class : List ℕ) (i : ℕ) (b : Best) where
+  pub evict-end : offerAt hs class i ≡ NoMore → b ≡ evictIn W maps rs ss flag own b (offersFrom hs class i)
+  unfolding evictIn foldl
+  evict-end q = rw (offers-step hs class i, q)
+
+  pub evict-skip : offerAt hs class i ≡ Skip → evictIn W maps rs ss flag own b (offersFrom hs class (i + 1)) ≡ evictIn W maps rs ss flag own b (offersFrom hs class i)
+  evict-skip q = rw (offers-step hs class i, q)
+
+  pub evict-past : length hs + length class ≤ i → b ≡ evictIn W maps rs ss flag own b (offersFrom hs class i)
+  unfolding offerAt
+  evict-past h =
+      let p : ltb i (length hs) ≡ false = le-ltb i (length hs) (omega arith) in
+      let q : ltb (i - length hs) (length class) ≡ false = le-ltb (i - length hs) (length class) (omega arith) in
+      evict-end (rw (p, q))
+
+  module _ (c : CandidateReg) (q : offerAt hs class i ≡ Offered c) (t : Tried) (e : t ≡ triedOn W maps rs ss c) where
+    better-yes : improves flag own c t (b .cost) ≡ true → taking c t ≡ betterIn W maps rs ss flag own b c
+    unfolding betterIn
+    better-yes p = subst (λ (u : Tried). taking c t ≡ cond (improves flag own c u (b .cost)) (taking c u) b) e (rw p)
+
+    better-no : improves flag own c t (b .cost) ≡ false → b ≡ betterIn W maps rs ss flag own b c
+    unfolding betterIn
+    better-no p = subst (λ (u : Tried). b ≡ cond (improves flag own c u (b .cost)) (taking c u) b) e (rw p)
+
+    here : evictIn W maps rs ss flag own (betterIn W maps rs ss flag own b c) (offersFrom hs class (i + 1)) ≡ evictIn W maps rs ss flag own b (offersFrom hs class i)
+    unfolding evictIn foldl
+    here = rw (offers-step hs class i, q)
+
+    pub evict-better : improves flag own c t (b .cost) ≡ true
+        → evictIn W maps rs ss flag own (taking c t) (offersFrom hs class (i + 1)) ≡ evictIn W maps rs ss flag own b (offersFrom hs class i)
+    evict-better p = ap (λ (x : Best). evictIn W maps rs ss flag own x (offersFrom hs class (i + 1))) (better-yes p) ∙ here
+
+    pub evict-not : improves flag own c t (b .cost) ≡ false → evictIn W maps rs ss flag own b (offersFrom hs class (i + 1)) ≡ evictIn W maps rs ss flag own b (offersFrom hs class i)
+    evict-not p = ap (λ (x : Best). evictIn W maps rs ss flag own x (offersFrom hs class (i + 1))) (better-no p) ∙ here

@@ -1,12 +1,19 @@
 -- A dequeue's decision in the shape of the code. Laws in proofs/AllocateLaws.antt tie these to Dequeue.antt. Assumes nothing.
 use Prim.Native.Nat.{ℕ}
 use mathlib.Core.List.{List, [], _∷_}
-use mathlib.Core.Bool.{Bool, true, false, cond}
-use lib.ListN.{getD}
-use Rattle.reg_matrix.specs.Lists.{isNil}
+use mathlib.Core.Bool.{Bool, true, false, not, _&&_, cond}
+use lib.Ieee.{Float, lt}
+use lib.ListN.{getD, replicate}
+use Rattle.reg_matrix.specs.Lists.{isNil, foldl}
 use Rattle.reg_matrix.specs.Walk.{Lent, entered, remaining}
 use Rattle.reg_matrix.specs.declared.Interference.{Interference}
-use Rattle.allocator.specs.State.{CandidateReg}
+use Rattle.job.specs.Model.{zeroWeight}
+use Rattle.allocator.specs.State.{CandidateReg, Assignment}
+use Rattle.allocator.specs.Order.{candidate}
+use Rattle.allocator.specs.Evict.{EvictCost, cheaper, infinite}
+use Rattle.allocator.specs.EvictWalk.{mayEvict, triedOf}
+use Rattle.allocator.specs.declared.evict.Tried.{Tried}
+use Rattle.allocator.specs.declared.allocate.Best.{Best}
 use Rattle.allocator.specs.declared.allocate.Available.{Available}
 use Rattle.allocator.specs.declared.allocate.Available.the-variants.{Clear, NoneClear, NoCandidates}
 
@@ -27,3 +34,32 @@ noneOf false = NoCandidates
 unfoldable pub availableIn : Lent → List ℕ → Bool → List CandidateReg → Available
 availableIn W maps t [] = noneOf t
 availableIn W maps t (c ∷ cs) = cond (clearOn W maps c) (Clear c) (availableIn W maps true cs)
+
+-- ---- the search for a register to evict from
+
+-- nothing found yet: any cost below two infinities is better
+abbrev pub noBest : Best
+noBest =
+    record {
+      found = false;
+      to = candidate 0 zeroWeight;
+      cost = record { «preference_weight» = infinite; «spill_weight» = infinite };
+      holders = replicate 512 false;
+    }
+
+abbrev pub taking : CandidateReg → Tried → Best
+taking c t = record { found = true; to = c; cost = t .cost; holders = t .holders }
+
+-- what the check's reports say of a candidate
+unfoldable pub triedOn : Lent → List ℕ → List Assignment → List Float → CandidateReg → Tried
+triedOn W maps rs ss c = triedOf rs ss (reportsOn W (getD maps (c .reg) 0))
+
+-- a number's flag and spill weight
+abbrev pub improves : Bool → Float → CandidateReg → Tried → EvictCost → Bool
+improves flag own c t best = not (t .«ruled_out») && (mayEvict (c .«preference_weight») flag (t .cost .«spill_weight») own && cheaper (t .cost) best)
+
+unfoldable pub betterIn : Lent → List ℕ → List Assignment → List Float → Bool → Float → Best → CandidateReg → Best
+betterIn W maps rs ss flag own b c = cond (improves flag own c (triedOn W maps rs ss c) (b .cost)) (taking c (triedOn W maps rs ss c)) b
+
+unfoldable pub evictIn : Lent → List ℕ → List Assignment → List Float → Bool → Float → Best → List CandidateReg → Best
+evictIn W maps rs ss flag own b cs = foldl (betterIn W maps rs ss flag own) b cs

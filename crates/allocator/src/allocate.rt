@@ -6,10 +6,17 @@ ghost use Rattle.reg_matrix.specs.Lists.{isNil};
 ghost use Rattle.reg_matrix.specs.Walk.{lent};
 ghost use Rattle.allocator.specs.State.{CandidateReg};
 ghost use Rattle.allocator.specs.OrderWalk.{Computed, offersFrom};
-ghost use Rattle.allocator.specs.AllocateWalk.{reportsOn, noneOf, availableIn};
+ghost use Rattle.allocator.specs.EvictWalk.{triedOf};
+ghost use Rattle.allocator.specs.AllocateWalk.{reportsOn, noneOf, availableIn, noBest, improves, evictIn};
 ghost use Prim.Native.Nat.{_+_, _≤_};
 ghost use lib.ListN.{length};
+use crate::Assignment;
 use crate::CandidateReg;
+use crate::EvictCost;
+use crate::evict::Tried;
+use crate::evict::is_cheaper;
+use crate::evict::may_evict;
+use crate::evict::try_reports;
 use crate::lent::at;
 use crate::order::AllocationOrder;
 use crate::order::Offer;
@@ -22,6 +29,14 @@ pub enum Available {
     Clear(CandidateReg),
     NoneClear,
     NoCandidates,
+}
+
+// The best candidate to evict from so far, at what cost, and whom.
+pub struct Best {
+    pub found: bool,
+    pub to: CandidateReg,
+    pub cost: EvictCost,
+    pub holders: [bool; 512],
 }
 
 // Whether the check of the segments on a register's units reports nothing. It stops at the first report.
@@ -96,4 +111,115 @@ pub fn find_available_reg(
         }
     }
     none_of(tried)
+}
+
+// What the check of the segments on a register's units says of evicting its holders.
+fn try_on(
+    records: [Assignment; 512],
+    spills: &[f32],
+    units: u64,
+    ends: &[u64],
+    rests: &[u64],
+    uses: &[u64],
+    froms: &[u32],
+    tos: &[u32],
+    values: &[u16],
+) -> Tried
+    ensures { λ r. ⌜ r ≡ triedOf records (now (spills .entry)) (reportsOn (lent (now (ends .entry)) (now (rests .entry)) (now (uses .entry)) (now (froms .entry)) (now (tos .entry)) (now (values .entry))) units) ⌝ }
+{
+    let c = enter(ends, froms, units, false);
+    try_reports(records, spills, c, ends, rests, uses, froms, tos, values)
+}
+
+fn none_yet() -> Best
+    ensures { λ r. ⌜ r ≡ noBest ⌝ }
+{
+    let infinite = f32::from_bits(0x7F80_0000);
+    Best {
+        found: false,
+        to: CandidateReg {
+            reg: 0,
+            preference_weight: 0.0,
+        },
+        cost: EvictCost {
+            preference_weight: infinite,
+            spill_weight: infinite,
+        },
+        holders: [false; 512],
+    }
+}
+
+// Whether a candidate may be evicted from, for a number with this flag and spill weight, and costs less than the best so far.
+fn is_better(flag: bool, own: f32, c: CandidateReg, t: Tried, best: EvictCost) -> bool
+    ensures { λ r. ⌜ r ≡ improves flag own c t best ⌝ }
+{
+    if t.ruled_out {
+        return false;
+    }
+    let cost = t.cost;
+    if may_evict(c.preference_weight, flag, cost.spill_weight, own) {
+        is_cheaper(cost, best)
+    } else {
+        false
+    }
+}
+
+// The search for a register to evict from: the least cost wins, the first on ties.
+pub fn try_evict(
+    order: AllocationOrder,
+    regs: &[u8],
+    weights: &[f32],
+    class: &[u8],
+    maps: &[u64],
+    records: [Assignment; 512],
+    spills: &[f32],
+    flag: bool,
+    own: f32,
+    ends: &[u64],
+    rests: &[u64],
+    uses: &[u64],
+    froms: &[u32],
+    tos: &[u32],
+    values: &[u16],
+) -> Best
+    ensures { λ r. ⌜ ((hs : List CandidateReg) → Computed order (now (regs .entry)) (now (weights .entry)) hs → length hs + length (now (class .entry)) ≤ 129 → r ≡ evictIn (lent (now (ends .entry)) (now (rests .entry)) (now (uses .entry)) (now (froms .entry)) (now (tos .entry)) (now (values .entry))) (now (maps .entry)) records (now (spills .entry)) flag own noBest (offersFrom hs (now (class .entry)) 0)) ⌝ }
+{
+    let mut best = none_yet();
+    let mut i = 0;
+    while i < 129 {
+        let place = i;
+        i += 1;
+        match candidate(order, regs, weights, class, place) {
+            Offer::End => {
+                return best;
+            }
+            Offer::Skip => {}
+            Offer::Reg(c) => {
+                let units = at(maps, wide(c.reg));
+                let t = try_on(
+                    records,
+                    spills,
+                    units,
+                    ends,
+                    rests,
+                    uses,
+                    froms,
+                    tos,
+                    values,
+                );
+                let so_far = best.cost;
+                if is_better(flag, own, c, t, so_far) {
+                    let cost = t.cost;
+                    let holders = t.holders;
+                    best = Best {
+                        found: true,
+                        to: c,
+                        cost,
+                        holders,
+                    };
+                }
+            }
+        }
+    }
+    best
 }
