@@ -132,6 +132,10 @@ rounds-match (suc n) ks h i p l =
         List·getD-append q ks 0 i (omega arith) ∙ u ∙ pair-at ks (i - width n) (omega arith)
         ∙ rw (← f, ← g, y, z)
 
+join-rounds : (n : ℕ) (p ks : List ℕ) → p ≡ 0 ∷ rounds n (drop (width n) p) → drop (width n) p ≡ pairMax ks → p ++ ks ≡ 0 ∷ rounds (suc n) ks
+unfolding rounds
+join-rounds n p ks s t = ap (λ x. x ++ ks) (s ∙ ap (λ x. 0 ∷ rounds n x) t)
+
 -- words whose matches are all played are the rounds of their last half
 match-rounds : (n : ℕ) (q : List ℕ) → length q ≡ width n + width n → getD q 0 0 ≡ 0 → ((i : ℕ) → 0 < i → i < width n → Match q i) → q ≡ 0 ∷ rounds n (drop (width n) q)
 unfolding rounds width
@@ -148,7 +152,7 @@ match-rounds (suc n) q h z m =
     let wp : 0 < w = width-pos n in
     let s = match-rounds n p lp (getD-take (w + w) q 0 0 (omega arith) ∙ z) (λ i a b. part i a b) in
     let t : drop w p ≡ pairMax ks = ext-getD 0 (drop w p) (pairMax ks) (simp length-drop (rw (pair-length w ks lk) (omega arith))) (λ i b. half i (omega (arith, length-drop w p))) in
-    sym (take-append-drop (w + w) q) ∙ ap (λ x. x ++ drop (w + w) q) (s ∙ ap (λ x. 0 ∷ rounds n x) t)
+    sym (take-append-drop (w + w) q) ∙ join-rounds n p ks s t
   where
     part : (i : ℕ) → 0 < i → i < width n → Match (take (width n + width n) q) i
     part i a b =

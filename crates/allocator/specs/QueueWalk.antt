@@ -55,7 +55,8 @@ abbrev pub wordOf : Job → ℕ → Option Stage → ℕ
 wordOf j v none = 0
 wordOf j v (some q) = encode j v q + 1
 
--- the tournament of a state. It differs from Layout's `queueWords` by the one that is added to a key.
+-- the tournament of a state. It differs from Layout's `queueWords` by the one that is added to a key: number 0 at stage Split, with no hints and
+-- size 0, has the key 0, and would look as if it did not wait.
 unfoldable pub tournament : Job → State → List ℕ
 tournament j s = 0 ∷ rounds 9 (map (λ v. wordOf j v (getD (s .queued) v none)) (count 0 512))
 

@@ -76,11 +76,11 @@ fn hint_count(regs: &[u8], weights: &[f32]) -> usize
 }
 
 // The candidates of the hints in the order of their first arrival.
-fn merge(hints: &[u8], costs: &[f32], regs: &mut [u8], weights: &mut [f32]) -> usize
+fn merge(hint_regs: &[u8], hint_weights: &[f32], regs: &mut [u8], weights: &mut [f32]) -> usize
     requires { ⌜ (65 ≤ length (now regs)) × (65 ≤ length (now weights)) ⌝ }
-    ensures { λ r. ⌜ (r ≤ 64) × (listed (now (regs .exit)) (now (weights .exit)) r ≡ merged (hintsOf (now (hints .entry)) (now (costs .entry)))) ⌝ }
+    ensures { λ r. ⌜ (r ≤ 64) × (listed (now (regs .exit)) (now (weights .exit)) r ≡ merged (hintsOf (now («hint_regs» .entry)) (now («hint_weights» .entry)))) ⌝ }
 {
-    let m = hint_count(hints, costs);
+    let m = hint_count(hint_regs, hint_weights);
     let mut n = 0;
     let mut i = 0;
     while i < m {
@@ -88,8 +88,8 @@ fn merge(hints: &[u8], costs: &[f32], regs: &mut [u8], weights: &mut [f32]) -> u
             regs,
             weights,
             n,
-            lent::at8(hints, i),
-            lent::weight_at(costs, i),
+            lent::at8(hint_regs, i),
+            lent::weight_at(hint_weights, i),
         );
         i += 1;
     }
@@ -194,16 +194,16 @@ fn marks(regs: &[u8], n: usize) -> u64
     hinted
 }
 
-// The hinted candidates of a virtual register whose hints are given by register and cost, into the slices lent. Where one of these is shorter
-// than 65 there are none.
+// The hinted candidates of a virtual register with these hints, of which 64 count, into the slices lent for them. Where one of these is
+// shorter than 65 there are none.
 pub fn compute(
-    hints: &[u8],
-    costs: &[f32],
+    hint_regs: &[u8],
+    hint_weights: &[f32],
     last: Last,
     regs: &mut [u8],
     weights: &mut [f32],
 ) -> AllocationOrder
-    ensures { λ o. ⌜ (65 ≤ length (now (regs .entry)) → 65 ≤ length (now (weights .entry)) → Computed o (now (regs .exit)) (now (weights .exit)) (hintedOf (hintsOf (now (hints .entry)) (now (costs .entry))) (lastOf last))) ⌝ }
+    ensures { λ o. ⌜ (65 ≤ length (now (regs .entry)) → 65 ≤ length (now (weights .entry)) → Computed o (now (regs .exit)) (now (weights .exit)) (hintedOf (hintsOf (now («hint_regs» .entry)) (now («hint_weights» .entry))) (lastOf last))) ⌝ }
 {
     if fewer(regs.len(), weights.len()) < 65 {
         return AllocationOrder {
@@ -211,7 +211,7 @@ pub fn compute(
             hinted: 0,
         };
     }
-    let n = merge(hints, costs, regs, weights);
+    let n = merge(hint_regs, hint_weights, regs, weights);
     sort(regs, weights, n);
     let count = add_last(regs, weights, n, last);
     let hinted = marks(regs, count);
