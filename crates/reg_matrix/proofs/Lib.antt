@@ -17,3 +17,9 @@ pub mod Laws
 pub mod Halves
 pub mod Walks
 pub mod Starts
+pub mod UnitMaps
+pub mod Passing
+pub mod Decode
+pub mod UseWords
+pub mod UnitWalk
+pub mod CheckLaw

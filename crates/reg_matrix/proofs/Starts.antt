@@ -2,13 +2,14 @@
 use Prim.Native.Nat.{ℕ, zero, suc, _+_, _-_, _≤_, _<_}
 use native.Mathlib.Numerals.{add-one}
 use native.Mathlib.Omega.{arith}
-use mathlib.Core.Path.{_≡_, refl, sym, ap, _∙_}
-use mathlib.Core.List.{List, [], _∷_}
+use mathlib.Core.Path.{_≡_, refl, sym, ap, _∙_, subst}
+use mathlib.Core.Logic.{_⊎_, inl, inr}
+use mathlib.Core.List.{List, [], _∷_, List·Memᴰ·cases-cons}
 use mathlib.Core.Option.{Option, none, some}
 use mathlib.Core.Bool.{Bool, true, false, _||_, cond}
 use lib.Dec.{ltb, leb, eqb}
 use lib.ListN.{length, take, getD, length-take}
-use borrow.Author.Tests.{le-leb, lt-leb, ne-eqb}
+use borrow.Author.Tests.{le-leb, lt-leb, ne-eqb, leb-false, ltb-false}
 use Rattle.reg_matrix.specs.Lists.{isNil}
 use Rattle.reg_matrix.specs.Refusals.{refusal, orThen, shortBuffer, badSlot, rangeRefusal, rangesRefusal}
 use Rattle.reg_matrix.specs.Questions.{checkLimits, checkRefusal}
@@ -16,6 +17,8 @@ use Rattle.reg_matrix.specs.Walk.{segmentAt, segmentsFrom, segmentsIn, r
 use Rattle.reg_matrix.specs.declared.ValueSegment.{ValueSegment}
 use Rattle.reg_matrix.specs.declared.Cursor.{Cursor}
 use Rattle.reg_matrix.specs.declared.Start.the-variants.{Refused}
+use Rattle.reg_matrix.proofs.Members.{_∈_}
+use Rattle.reg_matrix.proofs.Whole.{Rising}
 
 pub or-none : (b : Bool) → b || false ≡ b
 or-none true = refl
@@ -67,6 +70,46 @@ ranges-none past (s ∷ ss) q = go (rangeRefusal past s) (range-none past s) (λ
         → orThen o (rangesRefusal (s .to) ss) ≡ none
     go none h ih p = ih p
     go (some n) h ih p = h p
+
+-- ranges that no test refuses are nonempty and rise
+
+passed : (a b c : Bool) → chosen a b c ≡ none → (a ≡ false) × (c ≡ false)
+unfolding chosen
+passed true b c q = let z : _≡_ {A = ℕ} 0 1 = cc in absurd (omega arith)
+passed false true c q = let z : _≡_ {A = ℕ} 0 1 = cc in absurd (omega arith)
+passed false false true q = let z : _≡_ {A = ℕ} 0 1 = cc in absurd (omega arith)
+passed false false false q = (refl, refl)
+
+range-passed : (past : ℕ) (s : ValueSegment) → rangeRefusal past s ≡ none → (s .from < s .to) × (past ≤ s .from)
+unfolding rangeRefusal refusal chosen
+range-passed past s q =
+    let p = passed (leb (s .to) (s .from)) (badSlot (s .from) || badSlot (s .to)) (ltb (s .from) past) q in
+    (leb-false (s .to) (s .from) (p .0), ltb-false (s .from) past (p .1))
+
+pub record Passed (past : ℕ) (ss : List ValueSegment) : Type 0 where
+  pub nonempty : (s : ValueSegment) → s ∈ ss → s .from < s .to
+  pub rising : Rising ss
+  pub behind : (s : ValueSegment) → s ∈ ss → past ≤ s .from
+
+pub ranges-passed : (past : ℕ) (ss : List ValueSegment) → rangesRefusal past ss ≡ none → Passed past ss
+unfolding rangesRefusal
+ranges-passed past [] q = record { nonempty = λ s m. elim m [ ]; rising = tt; behind = λ s m. elim m [ ] }
+ranges-passed past (s ∷ ss) q = go (rangeRefusal past s) refl q (λ p. ranges-passed (s .to) ss p)
+  where
+    both : (s .from < s .to) × (past ≤ s .from) → Passed (s .to) ss → Passed past (s ∷ ss)
+    both h r = record { nonempty = λ x m. fit x (List·Memᴰ·cases-cons m); rising = (r .behind, r .rising); behind = λ x m. after x (List·Memᴰ·cases-cons m) }
+      where
+        fit : (x : ValueSegment) → (x ≡ s) ⊎ (x ∈ ss) → x .from < x .to
+        fit x (inl e) = subst (λ (w : ValueSegment). w .from < w .to) (sym e) (h .0)
+        fit x (inr m) = r .nonempty x m
+
+        after : (x : ValueSegment) → (x ≡ s) ⊎ (x ∈ ss) → past ≤ x .from
+        after x (inl e) = subst (λ (w : ValueSegment). past ≤ w .from) (sym e) (h .1)
+        after x (inr m) = omega (arith, h .0, h .1, r .behind x m)
+
+    go : (o : Option ℕ) → rangeRefusal past s ≡ o → orThen o (rangesRefusal (s .to) ss) ≡ none → (rangesRefusal (s .to) ss ≡ none → Passed (s .to) ss) → Passed past (s ∷ ss)
+    go none e p ih = both (range-passed past s e) (ih p)
+    go (some n) e p ih = let z : _≡_ {A = ℕ} 0 1 = cc in absurd (omega arith)
 
 module _ (fs ts vs : List ℕ) where
   pub segments-length : (n k : ℕ) → length (segmentsFrom fs ts vs n k) ≡ k

@@ -1,4 +1,4 @@
--- The check's walk over what is lent, on any content: definitions in the shape of the code. Laws in proofs/Walks.antt and proofs/WholeWalk.antt tie
+-- The check's walk over what is lent, on any content: definitions in the shape of the code. Laws in proofs/Walks.antt and proofs/CheckLaw.antt tie
 -- them to Check.antt. Assumes nothing.
 use Prim.Native.Nat.{ℕ, zero, suc, _+_, _-_, _*_, _^_, _%_}
 use mathlib.Core.Path.{_≡_}
