@@ -14,3 +14,4 @@ pub mod Apart
 pub mod Capacity
 pub mod Spare
 pub mod Laws
+pub mod Shifts

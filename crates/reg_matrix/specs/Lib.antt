@@ -6,3 +6,4 @@ pub mod Assign
 pub mod Questions
 pub mod Lines
 pub mod Layout
+pub mod Moves

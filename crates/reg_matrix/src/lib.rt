@@ -2,6 +2,7 @@
 // These are the types that the definitions and every contract above speak of.
 
 mod lent;
+mod table;
 mod words;
 
 // A part of a virtual register's live range, half-open, with the value that lives in it. A point's low two bits are its slot.
