@@ -15,3 +15,4 @@ pub mod Capacity
 pub mod Spare
 pub mod Laws
 pub mod Shifts
+pub mod Halves

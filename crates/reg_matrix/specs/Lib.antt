@@ -7,3 +7,4 @@ pub mod Questions
 pub mod Lines
 pub mod Layout
 pub mod Moves
+pub mod Search

@@ -3,6 +3,7 @@
 
 mod lent;
 mod table;
+mod search;
 mod words;
 
 // A part of a virtual register's live range, half-open, with the value that lives in it. A point's low two bits are its slot.
