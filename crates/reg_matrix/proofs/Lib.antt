@@ -16,3 +16,5 @@ pub mod Spare
 pub mod Laws
 pub mod Shifts
 pub mod Halves
+pub mod Walks
+pub mod Standing

@@ -7,4 +7,5 @@ pub mod Questions
 pub mod Lines
 pub mod Layout
 pub mod Moves
+pub mod Placing
 pub mod Search

@@ -1,9 +1,11 @@
 // The reservation matrix: which virtual register or fixed operand has a register unit, and when (`reg_matrix.rs`, `live_range.rs`).
 // These are the types that the definitions and every contract above speak of.
 
+mod assign;
 mod lent;
-mod table;
 mod search;
+mod table;
+mod unit_free;
 mod words;
 
 // A part of a virtual register's live range, half-open, with the value that lives in it. A point's low two bits are its slot.
@@ -47,4 +49,17 @@ pub struct Interference {
     pub from: u32,
     pub to: u32,
     pub kind: InterferenceKind,
+}
+
+// What placing or evicting answers: it is done, or the number of a refusal, which has changed nothing.
+pub enum Moved {
+    Done,
+    Refused(u8),
+}
+
+// Whether a unit is spare over a range: free, taken, or the number of a refusal.
+pub enum UnitFree {
+    Free,
+    Taken,
+    NotAsked(u8),
 }
