@@ -18,3 +18,7 @@ pub mod Shifts
 pub mod Halves
 pub mod Walks
 pub mod Standing
+pub mod Lying
+pub mod Placed
+pub mod Evicted
+pub mod Moving

@@ -1,11 +1,11 @@
 -- A table that stands in the two lent slices (`Stands`): what a search finds there, and that an entry put in or taken out by the moves of
 -- specs/Moves.antt is put into the table or taken out of it; what is lent behind the table stays. Assumes nothing.
-use Prim.Native.Nat.{ℕ, zero, suc, _+_, _-_, _*_, _^_, _≤_, _<_}
+use Prim.Native.Nat.{ℕ, zero, suc, _+_, _-_, _^_, _≤_, _<_}
 use native.Mathlib.Omega.{arith}
 use native.Mathlib.Decide.{decLt}
 use mathlib.Core.Path.{_≡_, refl, sym, ap, _∙_, subst}
 use mathlib.Core.Logic.{_⊎_, inl, inr}
-use mathlib.Core.List.{List, [], _∷_, _++_, map, append-assoc, List·Memᴰ·head, List·Memᴰ·tail, List·Memᴰ·cases-cons, List·Memᴰ·append-cases, Memᴰ·append-left, Memᴰ·append-right, Memᴰ·of-map}
+use mathlib.Core.List.{List, [], _∷_, _++_, map, append-assoc, List·Memᴰ·head, List·Memᴰ·tail, List·Memᴰ·append-cases, Memᴰ·append-left, Memᴰ·append-right, Memᴰ·of-map}
 use mathlib.Core.Bool.{Bool, true, false}
 use lib.Dec.{T, ltb, ltb→lt, lt→ltb}
 use lib.ListN.{length, take, drop, replicate, length-append, length-map, length-replicate, length-take, length-drop}
@@ -15,7 +15,7 @@ use Rattle.reg_matrix.specs.Lists.{keep, filter, padded}
 use Rattle.reg_matrix.specs.Table.{Table, before, putBefore, insert}
 use Rattle.reg_matrix.specs.Layout.{maxEntries, greatest, endWord, restWord, endWords, restWords}
 use Rattle.reg_matrix.specs.Search.{placeOf, Rises, below}
-use Rattle.reg_matrix.specs.Moves.{Words, words, entries, inserted, removed, inserting, removing, removingRun}
+use Rattle.reg_matrix.specs.Moves.{Words, entries, inserted, removed, inserting, removing, removingRun}
 use Rattle.reg_matrix.specs.declared.Entry.{Entry}
 use Rattle.reg_matrix.proofs.Tests.{same-test}
 use Rattle.reg_matrix.proofs.Members.{_∈_}

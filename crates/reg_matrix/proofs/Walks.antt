@@ -4,15 +4,13 @@ use native.Mathlib.Numerals.{add-one}
 use native.Mathlib.Nat.{zero-add, pow-suc}
 use native.Mathlib.Omega.{arith}
 use native.Mathlib.Decide.{decLt}
-use mathlib.Core.Path.{_≡_, refl, ap, sym, _∙_, subst}
+use mathlib.Core.Path.{_≡_, refl, ap, sym, _∙_}
 use mathlib.Core.List.{List, [], _∷_}
-use mathlib.Core.Bool.{Bool, true, false}
 use lib.Dec.{eqb}
 use lib.Count.{trailingZeros, under}
 use lib.Pow.{pow-mono, shr-shr}
 use lib.ListN.{length, drop, getD, drop-of-length-le}
 use lib.Seq.{drop-cons, drop-drop, getD-drop}
-use borrow.Author.Tests.{eq-eqb, ne-eqb}
 use Rattle.reg_matrix.specs.Lists.{keep, filter, foldl, count, bit}
 use Rattle.reg_matrix.specs.Table.{unitsOf}
 use Rattle.reg_matrix.specs.Moves.{Words}

@@ -17,7 +17,7 @@ use Rattle.reg_matrix.specs.declared.Moved.{Moved}
 use Rattle.reg_matrix.specs.declared.Moved.the-variants.{Done, Refused}
 use Rattle.reg_matrix.specs.declared.UnitFree.{UnitFree}
 use Rattle.reg_matrix.specs.declared.UnitFree.the-variants.{Free, Taken, NotAsked}
-use Rattle.reg_matrix.specs.Moves.{Words, words, inserting, removing, removingRun}
+use Rattle.reg_matrix.specs.Moves.{Words, inserting, removing, removingRun}
 
 -- the fixed uses of lower units have lower numbers, and so have the unit's that start before p
 abbrev pub unitKey : ℕ → ℕ

@@ -7,7 +7,7 @@ use lib.ListN.{length}
 use lib.Count.{trailing-le}
 use Rattle.reg_matrix.specs.Moves.{words}
 use Rattle.reg_matrix.specs.Placing.{assigning}
-use Rattle.reg_matrix.proofs.Walks.{first-unit, units-more, units-end}
+use Rattle.reg_matrix.proofs.Walks.{units-more, units-end}
 use Rattle.reg_matrix.proofs.assign.assign_units.Statement.{statement}
 use Rattle.reg_matrix.proofs.assign.assign_units.Tie as tie
 

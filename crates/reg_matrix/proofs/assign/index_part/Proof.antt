@@ -1,6 +1,5 @@
 use borrow.Author.Needs.{needs}
 use native.Mathlib.Omega.{arith}
-use mathlib.Core.Path.{_∙_}
 use borrow.Author.Tests.{lt-ltb, le-ltb}
 use Rattle.reg_matrix.specs.Placing.{indexPart}
 use Rattle.reg_matrix.proofs.assign.index_part.Statement.{statement}
