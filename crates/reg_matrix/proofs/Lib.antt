@@ -14,8 +14,10 @@ pub mod Apart
 pub mod Capacity
 pub mod Spare
 pub mod Laws
+pub mod Shifts
 pub mod Halves
 pub mod Walks
+pub mod PlacingWalks
 pub mod Starts
 pub mod UnitMaps
 pub mod Passing
@@ -23,3 +25,8 @@ pub mod Decode
 pub mod UseWords
 pub mod UnitWalk
 pub mod CheckLaw
+pub mod Standing
+pub mod Lying
+pub mod Placed
+pub mod Evicted
+pub mod Moving

@@ -47,25 +47,26 @@ AllFree fixed cs v m ss = (u : ℕ) → u ∈ unitsOf m → (s : ValueSegment) �
 
 -- ---- a walk over units and segments is a walk over cells
 
-module _ (f : ℕ → ℕ → Table → ValueSegment → Table) where
-  onCell : Table → Cell → Table
+-- of any state B
+module _ {B : Type 0} (f : ℕ → ℕ → B → ValueSegment → B) where
+  unfoldable pub onCell : B → Cell → B
   onCell t c = f (c .v) (c .u) t (c .s)
 
-  walk-append : (ks ls : List Cell) (t : Table) → foldl onCell t (ks ++ ls) ≡ foldl onCell (foldl onCell t ks) ls
+  walk-append : (ks ls : List Cell) (t : B) → foldl onCell t (ks ++ ls) ≡ foldl onCell (foldl onCell t ks) ls
   unfolding foldl
   walk-append [] ls t = refl
   walk-append (k ∷ ks) ls t = walk-append ks ls (onCell t k)
 
-  walk-unit : (v u : ℕ) (ss : List ValueSegment) (t : Table) → foldl (f v u) t ss ≡ foldl onCell t (map (cellOf v u) ss)
+  walk-unit : (v u : ℕ) (ss : List ValueSegment) (t : B) → foldl (f v u) t ss ≡ foldl onCell t (map (cellOf v u) ss)
   unfolding foldl onCell
   walk-unit v u [] t = refl
   walk-unit v u (s ∷ ss) t = walk-unit v u ss (f v u t s)
 
-  walk-cells : (v : ℕ) (us : List ℕ) (ss : List ValueSegment) (t : Table) → foldl (λ t u. foldl (f v u) t ss) t us ≡ foldl onCell t (cellsOn v us ss)
+  pub walk-cells : (v : ℕ) (us : List ℕ) (ss : List ValueSegment) (t : B) → foldl (λ t u. foldl (f v u) t ss) t us ≡ foldl onCell t (cellsOn v us ss)
   unfolding foldl cellsOn concatMap
   walk-cells v [] ss t = refl
   walk-cells v (u ∷ us) ss t =
-      ap (λ (x : Table). foldl (λ t u. foldl (f v u) t ss) x us) (walk-unit v u ss t)
+      ap (λ (x : B). foldl (λ t u. foldl (f v u) t ss) x us) (walk-unit v u ss t)
       ∙ walk-cells v us ss (foldl onCell t (map (cellOf v u) ss))
       ∙ sym (walk-append (map (cellOf v u) ss) (cellsOn v us ss) t)
 
@@ -124,7 +125,7 @@ module _ (fixed : List Entry) (cs : List Cell) (v : ℕ) where
   joins-units m ss r f = joins (unitsOf m) ss (units-distinct m) r f
 
 -- one more cell beside
-one-more : (fixed : List Entry) (cs ks : List Cell) (k : Cell) → ((l : Cell) → l ∈ ks → l .u ≡ k .u → Disjoint (l .s) (k .s)) → Joins fixed cs ks → Joins fixed (k ∷ cs) ks
+pub one-more : (fixed : List Entry) (cs ks : List Cell) (k : Cell) → ((l : Cell) → l ∈ ks → l .u ≡ k .u → Disjoint (l .s) (k .s)) → Joins fixed cs ks → Joins fixed (k ∷ cs) ks
 one-more fixed cs [] k h j = tt
 one-more fixed cs (l ∷ ls) k h j =
     (record { nonempty = j .0 .nonempty; alone = alone; covers = j .0 .covers; owns = j .0 .owns }, one-more fixed cs ls k (λ x m. h x (List·Memᴰ·tail m)) (j .1))

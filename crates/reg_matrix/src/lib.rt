@@ -2,9 +2,12 @@
 // These are the types that the definitions and every contract above speak of.
 
 pub mod check;
+mod assign;
 mod lent;
 mod ranges;
 mod search;
+mod table;
+mod unit_free;
 mod words;
 
 // A part of a virtual register's live range, half-open, with the value that lives in it. A point's low two bits are its slot.
@@ -77,4 +80,16 @@ pub enum Step {
 pub enum Start {
     Checking(Cursor),
     Refused(u8),
+}
+// What placing or evicting answers: it is done, or the number of a refusal, which has changed nothing.
+pub enum Moved {
+    Done,
+    Refused(u8),
+}
+
+// Whether a unit is spare over a range: free, taken, or the number of a refusal.
+pub enum UnitFree {
+    Free,
+    Taken,
+    NotAsked(u8),
 }
