@@ -1,5 +1,5 @@
 -- Laws of a dequeue's decision in the code. Assumes nothing.
-use Prim.Native.Nat.{ℕ, _+_, _-_, _≤_}
+use Prim.Native.Nat.{ℕ, _+_, _-_, _≤_, _<_}
 use native.Mathlib.Omega.{arith}
 use borrow.Author.Tests.{le-ltb}
 use mathlib.Core.Path.{_≡_, ap, sym, subst, _∙_}
@@ -7,7 +7,9 @@ use mathlib.Core.List.{List, [], _∷_}
 use mathlib.Core.Bool.{Bool, true, false, cond}
 use lib.Dec.{ltb}
 use lib.Ieee.{Float}
-use lib.ListN.{length, getD}
+use lib.ListN.{length, getD, drop, drop-of-length-le}
+use lib.Seq.{drop-cons}
+use native.Mathlib.Numerals.{add-one}
 use Rattle.reg_matrix.specs.Lists.{isNil, foldl}
 use Rattle.reg_matrix.specs.Walk.{Lent, remaining, heard, entered}
 use Rattle.reg_matrix.specs.declared.Interference.{Interference}
@@ -18,8 +20,8 @@ use Rattle.allocator.specs.State.{CandidateReg, Assignment}
 use Rattle.allocator.specs.EvictWalk.{triedOf}
 use Rattle.allocator.specs.declared.evict.Tried.{Tried}
 use Rattle.allocator.specs.declared.allocate.Best.{Best}
-use Rattle.allocator.specs.OrderWalk.{offerAt, offersFrom, Offered, Skip, End as NoMore}
-use Rattle.allocator.specs.AllocateWalk.{reportsOn, clearOn, noneOf, availableIn, triedOn, taking, improves, betterIn, evictIn}
+use Rattle.allocator.specs.OrderWalk.{noCandidate, offerAt, offersFrom, Offered, Skip, End as NoMore}
+use Rattle.allocator.specs.AllocateWalk.{reportsOn, clearOn, noneOf, availableIn, noBest, triedOn, taking, improves, betterIn, evictIn, prefers, preferIn}
 use Rattle.allocator.specs.declared.allocate.Available.the-variants.{Clear}
 use Rattle.allocator.proofs.OrderLaws.{offers-step}
 
@@ -107,3 +109,23 @@ module _ (W : Lent) (maps : List ℕ) (rs : List Assignment) (ss : List Float) (
 
     pub evict-not : improves flag own c t (b .cost) ≡ false → evictIn W maps rs ss flag own b (offersFrom hs class (i + 1)) ≡ evictIn W maps rs ss flag own b (offersFrom hs class i)
     evict-not p = ap (λ (x : Best). evictIn W maps rs ss flag own x (offersFrom hs class (i + 1))) (better-no p) ∙ here
+
+-- ---- one hinted candidate of the search for a preferred one
+
+module _ (W : Lent) (maps : List ℕ) (rs : List Assignment) (ss : List Float) (clear : CandidateReg) (hs : List CandidateReg) (i : ℕ) where
+  pub prefer-end : length hs ≤ i → noBest ≡ preferIn W maps rs ss clear (drop i hs)
+  unfolding preferIn
+  prefer-end h = rw (drop-of-length-le hs h)
+
+  module _ (h : i < length hs) (c : CandidateReg) (q : c ≡ getD hs i noCandidate) (t : Tried) (e : t ≡ triedOn W maps rs ss c) where
+    hinted-here : preferIn W maps rs ss clear (drop i hs) ≡ cond (prefers clear c (triedOn W maps rs ss c)) (taking c (triedOn W maps rs ss c)) (preferIn W maps rs ss clear (drop (i + 1) hs))
+    unfolding preferIn
+    hinted-here = rw (q, add-one, drop-cons hs i noCandidate)
+
+    pub prefer-yes : prefers clear c t ≡ true → taking c t ≡ preferIn W maps rs ss clear (drop i hs)
+    prefer-yes p =
+        subst (λ (u : Tried). taking c t ≡ cond (prefers clear c u) (taking c u) (preferIn W maps rs ss clear (drop (i + 1) hs))) e (rw p) ∙ sym hinted-here
+
+    pub prefer-no : prefers clear c t ≡ false → preferIn W maps rs ss clear (drop (i + 1) hs) ≡ preferIn W maps rs ss clear (drop i hs)
+    prefer-no p =
+        subst (λ (u : Tried). preferIn W maps rs ss clear (drop (i + 1) hs) ≡ cond (prefers clear c u) (taking c u) (preferIn W maps rs ss clear (drop (i + 1) hs))) e (rw p) ∙ sym hinted-here

@@ -63,3 +63,13 @@ betterIn W maps rs ss flag own b c = cond (improves flag own c (triedOn W maps r
 
 unfoldable pub evictIn : Lent → List ℕ → List Assignment → List Float → Bool → Float → Best → List CandidateReg → Best
 evictIn W maps rs ss flag own b cs = foldl (betterIn W maps rs ss flag own) b cs
+
+-- ---- the search for a preferred register
+
+-- heavier than the clear candidate, and than its holders at every report together
+abbrev pub prefers : CandidateReg → CandidateReg → Tried → Bool
+prefers clear c t = lt (clear .«preference_weight») (c .«preference_weight») && (not (t .«ruled_out») && lt (t .«every_report») (c .«preference_weight»))
+
+unfoldable pub preferIn : Lent → List ℕ → List Assignment → List Float → CandidateReg → List CandidateReg → Best
+preferIn W maps rs ss clear [] = noBest
+preferIn W maps rs ss clear (c ∷ cs) = cond (prefers clear c (triedOn W maps rs ss c)) (taking c (triedOn W maps rs ss c)) (preferIn W maps rs ss clear cs)

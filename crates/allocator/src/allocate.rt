@@ -7,7 +7,7 @@ ghost use Rattle.reg_matrix.specs.Walk.{lent};
 ghost use Rattle.allocator.specs.State.{CandidateReg};
 ghost use Rattle.allocator.specs.OrderWalk.{Computed, offersFrom};
 ghost use Rattle.allocator.specs.EvictWalk.{triedOf};
-ghost use Rattle.allocator.specs.AllocateWalk.{reportsOn, noneOf, availableIn, noBest, improves, evictIn};
+ghost use Rattle.allocator.specs.AllocateWalk.{reportsOn, noneOf, availableIn, noBest, improves, evictIn, prefers, preferIn};
 ghost use Prim.Native.Nat.{_+_, _≤_};
 ghost use lib.ListN.{length};
 use crate::Assignment;
@@ -18,6 +18,8 @@ use crate::evict::is_cheaper;
 use crate::evict::may_evict;
 use crate::evict::try_reports;
 use crate::lent::at;
+use crate::lent::at8;
+use crate::lent::weight_at;
 use crate::order::AllocationOrder;
 use crate::order::Offer;
 use crate::order::candidate;
@@ -222,4 +224,74 @@ pub fn try_evict(
         }
     }
     best
+}
+
+// Whether a candidate is heavier than the clear one, and than its holders at every report together.
+fn is_preferred(clear: CandidateReg, c: CandidateReg, t: Tried) -> bool
+    ensures { λ r. ⌜ r ≡ prefers clear c t ⌝ }
+{
+    if clear.preference_weight < c.preference_weight {
+        if t.ruled_out {
+            false
+        } else {
+            t.every_report < c.preference_weight
+        }
+    } else {
+        false
+    }
+}
+
+// The first hinted candidate that is preferred to the clear one, with its holders. There are at most 65 hinted ones.
+pub fn try_evict_for_preferred_reg(
+    clear: CandidateReg,
+    order: AllocationOrder,
+    regs: &[u8],
+    weights: &[f32],
+    maps: &[u64],
+    records: [Assignment; 512],
+    spills: &[f32],
+    ends: &[u64],
+    rests: &[u64],
+    uses: &[u64],
+    froms: &[u32],
+    tos: &[u32],
+    values: &[u16],
+) -> Best
+    ensures { λ r. ⌜ ((hs : List CandidateReg) → Computed order (now (regs .entry)) (now (weights .entry)) hs → length hs ≤ 65 → r ≡ preferIn (lent (now (ends .entry)) (now (rests .entry)) (now (uses .entry)) (now (froms .entry)) (now (tos .entry)) (now (values .entry))) (now (maps .entry)) records (now (spills .entry)) clear hs) ⌝ }
+{
+    let mut i = 0;
+    while i < 65 {
+        let place = i;
+        i += 1;
+        if order.count <= place {
+            return none_yet();
+        }
+        let c = CandidateReg {
+            reg: at8(regs, place),
+            preference_weight: weight_at(weights, place),
+        };
+        let units = at(maps, wide(c.reg));
+        let t = try_on(
+            records,
+            spills,
+            units,
+            ends,
+            rests,
+            uses,
+            froms,
+            tos,
+            values,
+        );
+        if is_preferred(clear, c, t) {
+            let cost = t.cost;
+            let holders = t.holders;
+            return Best {
+                found: true,
+                to: c,
+                cost,
+                holders,
+            };
+        }
+    }
+    none_yet()
 }

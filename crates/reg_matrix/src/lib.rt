@@ -1,8 +1,8 @@
 // The reservation matrix: which virtual register or fixed operand has a register unit, and when (`reg_matrix.rs`, `live_range.rs`).
 // These are the types that the definitions and every contract above speak of.
 
-pub mod check;
 mod assign;
+pub mod check;
 mod lent;
 mod ranges;
 mod search;
