@@ -170,9 +170,9 @@ module _ (fixed : List Entry) (t : Table) (W : Lent) (L : Holds fixed t W) (P : 
     goes-on p r = remaining-step W (at-use (p + 1)) ∙ (ap (λ k. emit k (λ d. remaining W d)) r ∙ ap (remaining W) (onward-same (p + 1) 0))
 
     -- no use of the unit any more
-    use-other : (p : ℕ) (f : Entry) (v : ℕ) → p < maxFixed → useOf (getD (W .uses) p 0) ≡ f → (f .unit ≡ x .unit → ⊥) → stepOf W (at-use (p + 1)) ≡ Goes (onward true (at-use (p + 1)) x s)
+    use-other : (p : ℕ) (f : Entry) → p < maxFixed → useOf (getD (W .uses) p 0) ≡ f → (f .unit ≡ x .unit → ⊥) → stepOf W (at-use (p + 1)) ≡ Goes (onward true (at-use (p + 1)) x s)
     unfolding useMeeting
-    use-other p f v h r k = use-step p h ∙ rw (r, ne-eqb _ _ k)
+    use-other p f h r k = use-step p h ∙ rw (r, ne-eqb _ _ k)
 
     unit-known : x .unit ≤ 64
     unit-known = omega (arith, o, trailing-le 64 m)
@@ -186,13 +186,13 @@ module _ (fixed : List Entry) (t : Table) (W : Lent) (L : Holds fixed t W) (P : 
         elim (decLt p maxFixed) as (λ _. remaining W (at-use (p + 1)) ≡ remaining W (onward true (at-use 0) x s)) [
           | yes l ↦
               goes-on p
-              (use-other p (useOf greatest) 0 l (ap useOf (use-past fixed t W L P p r l)) (λ k. omega (arith, past-unit, unit-known, k)))
+              (use-other p (useOf greatest) l (ap useOf (use-past fixed t W L P p r l)) (λ k. omega (arith, past-unit, unit-known, k)))
           | no l ↦ goes-on p (use-end p (omega arith))
         ]
     uses-done (f ∷ fs) p r h =
         let k = h f (List·Memᴰ·head refl) in
         goes-on p
-        (use-other p f 0 (omega (arith, drop-inside p (allUses fixed) f fs r, P .few-uses)) (ap useOf (use-here fixed t W L P p f fs r) ∙ use-back f (k .0)) (k .1))
+        (use-other p f (omega (arith, drop-inside p (allUses fixed) f fs r, P .few-uses)) (ap useOf (use-here fixed t W L P p f fs r) ∙ use-back f (k .0)) (k .1))
 
     module _ (p : ℕ) (f : Entry) (fs : List Entry) (r : drop p (allUses fixed) ≡ f ∷ fs) (k : SmallUse f) (y : f .unit ≡ x .unit) where
       at-this : stepOf W (at-use (p + 1)) ≡ useMeeting (at-use (p + 1)) x s f (useValue (f .reservation))
@@ -336,7 +336,6 @@ module _ (fixed : List Entry) (t : Table) (W : Lent) (L : Holds fixed t W) (P : 
         → remaining W (underEntry (W .uses) (at n e) (x .unit) i) ≡ usesUnder uses n (seg n) i ++ remaining W (onward true (at n e) x (seg n))
     unfolding u uses seg at underEntry usesUnder told s at-use
     underneath i h =
-        let v = sym o in
         let d = uses-at fixed (P .small-uses) (P .use-chain) (x .unit) (omega (arith, o, low)) (W .uses) (L .uses) (P .few-uses) i h in
         use-walk fixed t W L P full m n e z a b x q o (drop i (fixedUses fixed (x .unit))) _ _ d
         (λ f k.
@@ -504,9 +503,6 @@ module _ (fixed : List Entry) (t : Table) (W : Lent) (L : Holds fixed t W) (P : 
           all-behind y (inr j) = omega (arith, follow y j, full-entry, h)
 
       -- they overlap
-      reports : List Interference
-      reports = reportsOf uses n (seg n) x (x .reservation)
-
       on-segment : seg n .to < x .to → onward true (at n e) x (seg n) ≡ at (n + 1) e
       unfolding onward at
       on-segment h = rw (lt-ltb (seg n .to) (x .to) h)
@@ -528,9 +524,6 @@ module _ (fixed : List Entry) (t : Table) (W : Lent) (L : Holds fixed t W) (P : 
 
           now-counts : counts full earlier x ≡ true
           now-counts = c x (on-head (λ l. x ∈ l) (List·Memᴰ·head refl))
-
-          whole : List Entry → List Interference
-          whole l = checkOn full uses l n earlier (seg n ∷ segs (suc n) k)
 
           stays :
               (full || indexed (x .reservation)) ≡ true
@@ -749,9 +742,6 @@ module _ (fixed : List Entry) (t : Table) (W : Lent) (L : Holds fixed t W) (P : 
     where
       from : ℕ
       from = getD (W .froms) 0 0
-
-      all : List ValueSegment
-      all = segmentsFrom (W .froms) (W .tos) (W .values) 0 (length (W .froms))
 
       place : ℕ
       place = below (u * 2 ^ 32 + getD (W .froms) 0 0 + 1) (map endWord t)
