@@ -21,5 +21,6 @@ pub mod UnitMaps
 pub mod Passing
 pub mod Decode
 pub mod UseWords
+pub mod Reading
 pub mod UnitWalk
 pub mod CheckLaw
