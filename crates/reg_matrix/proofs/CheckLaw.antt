@@ -37,7 +37,8 @@ use Rattle.reg_matrix.proofs.Starts.{Passed, ranges-passed}
 use Rattle.reg_matrix.proofs.Walks.{remaining-step}
 use Rattle.reg_matrix.proofs.UnitMaps.{no-units, units-lowest}
 use Rattle.reg_matrix.proofs.Decode.{SmallIndex, SmallReservation, Small, SmallUse}
-use Rattle.reg_matrix.proofs.UnitWalk.{Holds, Walkable, unit-start, after, after-last, after-more}
+use Rattle.reg_matrix.proofs.Reading.{Holds, Walkable}
+use Rattle.reg_matrix.proofs.UnitWalk.{unit-start, after, after-last, after-more}
 
 -- ---- no unit, and the lowest unit
 

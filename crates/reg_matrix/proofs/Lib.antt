@@ -23,6 +23,7 @@ pub mod UnitMaps
 pub mod Passing
 pub mod Decode
 pub mod UseWords
+pub mod Reading
 pub mod UnitWalk
 pub mod CheckLaw
 pub mod Standing

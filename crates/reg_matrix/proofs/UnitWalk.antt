@@ -7,17 +7,17 @@ use mathlib.Core.Path.{_≡_, refl, sym, ap, _∙_, subst}
 use mathlib.Core.Logic.{_⊎_, inl, inr}
 use mathlib.Core.List.{List, [], _∷_, _++_, map, append-assoc, List·Memᴰ·head, List·Memᴰ·tail, List·Memᴰ·cases-cons, Memᴰ·map}
 use mathlib.Core.Bool.{Bool, true, false, not, _&&_, _||_, cond}
-use lib.Dec.{ltb, leb, eqb, eqb→eq}
+use lib.Dec.{ltb, eqb, eqb→eq}
 use lib.ListN.{length, take, drop, getD, replicate, length-map}
-use lib.Seq.{getD-take, drop-nil}
+use lib.Seq.{drop-nil}
 use lib.Count.{trailingZeros, trailing-le}
 use borrow.Author.Tests.{lt-ltb, le-ltb, le-leb, lt-leb, eq-eqb, ne-eqb, ltb-true, ltb-false, eqb-true, eqb-false}
-use Rattle.reg_matrix.specs.Lists.{keep, filter, any, concatMap, count, padded}
+use Rattle.reg_matrix.specs.Lists.{keep, filter, any, padded}
 use Rattle.reg_matrix.specs.Table.{Table, fixedUses, onUnit}
 use Rattle.reg_matrix.specs.Check.{overlaps, indexed, ownUse, sharedPart, wholeUse, usesUnder, reportsOf, counts, checkOn}
-use Rattle.reg_matrix.specs.Layout.{maxEntries, maxFixed, greatest, endWord, restWord, useWord, useValue, endWords, restWords, useWords, entryOf, useOf}
+use Rattle.reg_matrix.specs.Layout.{maxEntries, maxFixed, greatest, endWord, useValue, endWords, useOf}
 use Rattle.reg_matrix.specs.Search.{below, placeOf, Rises}
-use Rattle.reg_matrix.specs.Walk.{Lent, segmentAt, segmentsFrom, entryAt, onward, underEntry, entered, meeting, entryStep, useMeeting, useStep, laterUnits, leaveUnit, unitStep, stepOf, emit, remaining}
+use Rattle.reg_matrix.specs.Walk.{Lent, segmentAt, segmentsFrom, entryAt, onward, underEntry, entered, meeting, entryStep, useMeeting, useStep, laterUnits, leaveUnit, stepOf, emit, remaining}
 use Rattle.reg_matrix.specs.declared.ValueSegment.{ValueSegment}
 use Rattle.reg_matrix.specs.declared.Entry.{Entry}
 use Rattle.reg_matrix.specs.declared.FixedIndex.the-variants.{At, NoIndex}
@@ -27,114 +27,22 @@ use Rattle.reg_matrix.specs.declared.Interference.{Interference}
 use Rattle.reg_matrix.specs.declared.InterferenceKind.the-variants.{Fixed, VirtReg}
 use Rattle.reg_matrix.specs.declared.Cursor.{Cursor}
 use Rattle.reg_matrix.specs.declared.Move.{Move}
-use Rattle.reg_matrix.specs.declared.Move.the-variants.{Meets, Goes, Ends}
+use Rattle.reg_matrix.specs.declared.Move.the-variants.{Meets, Goes}
 use Rattle.reg_matrix.proofs.Members.{_∈_, filter-none, drop-out, fixedUses-out}
 use Rattle.reg_matrix.proofs.Sorted.{Before, Sorted, before→, below-out}
 use Rattle.reg_matrix.proofs.Chains.{Chain, chain-drop}
 use Rattle.reg_matrix.proofs.Whole.{Rising}
 use Rattle.reg_matrix.proofs.Halves.{none-below, below-cons, place-searched}
 use Rattle.reg_matrix.proofs.Starts.{or-none}
-use Rattle.reg_matrix.proofs.Walks.{cond-by, remaining-step}
+use Rattle.reg_matrix.proofs.Walks.{remaining-step}
 use Rattle.reg_matrix.proofs.Passing.{ahead, behind, meets, counts-same, counts-stay, counts-once, check-end, check-empty, pass-entry, pass-segment, pass-stay, pass-on}
 use Rattle.reg_matrix.proofs.UseWords.{uses-at, back-other, below-front, padded-length, taken-length}
-use Rattle.reg_matrix.proofs.Decode.{Small, SmallUse, ends-rise, ends-below, rises-append, replicate-in, replicate-rises, map-out, entry-back, use-back, use-value, drop-next, drop-inside, drop-past, word-at, word-past}
+use Rattle.reg_matrix.proofs.Decode.{Small, SmallUse, ends-rise, ends-below, rises-append, replicate-in, replicate-rises, map-out, use-back, use-value, drop-next, drop-inside}
+use Rattle.reg_matrix.proofs.Reading.{allUses, Holds, Walkable, entry-here, entry-past, use-here, use-past, step-no-segment, step-no-entry, step-other, step-entry, step-use}
 
 or-true : (b : Bool) → b || true ≡ true
 or-true true = refl
 or-true false = refl
-
--- the fixed uses of all units, as they are laid out
-abbrev pub allUses : List Entry → List Entry
-allUses fixed = concatMap (fixedUses fixed) (count 0 64)
-
--- what is lent holds the table and the fixed uses
-pub record Holds (fixed : List Entry) (t : Table) (W : Lent) : Type 0 where
-  pub ends : take maxEntries (W .ends) ≡ endWords t
-  pub rests : take maxEntries (W .rests) ≡ restWords t
-  pub uses : take maxFixed (W .uses) ≡ useWords fixed
-
--- a table whose entries are sorted, apart on each unit and fit their fields, with fixed uses that do
-pub record Walkable (fixed : List Entry) (t : Table) : Type 0 where
-  pub sorted : Sorted t
-  pub room : length t ≤ maxEntries
-  pub small : (e : Entry) → e ∈ t → Small e
-  pub nonempty : (e : Entry) → e ∈ t → e .from < e .to
-  pub chain : (u : ℕ) → Chain (onUnit u t)
-  pub index : (e : Entry) → e ∈ t → (v i : ℕ) → e .reservation ≡ Held v (At i) → i ≤ length (fixedUses fixed (e .unit))
-  pub few-uses : length (allUses fixed) ≤ maxFixed
-  pub small-uses : (u : ℕ) (f : Entry) → f ∈ fixedUses fixed u → SmallUse f
-  pub use-chain : (u : ℕ) → Chain (fixedUses fixed u)
-
--- ---- what is read
-
-module _ (fixed : List Entry) (t : Table) (W : Lent) (L : Holds fixed t W) (P : Walkable fixed t) where
-  end-read : (i : ℕ) → i < maxEntries → getD (W .ends) i 0 ≡ getD (map endWord t ++ replicate (maxEntries - length (map endWord t)) greatest) i 0
-  unfolding endWords padded
-  end-read i h = sym (getD-take maxEntries (W .ends) i 0 h) ∙ ap (λ l. getD l i 0) (L .ends)
-
-  rest-read : (i : ℕ) → i < maxEntries → getD (W .rests) i 0 ≡ getD (map restWord t ++ replicate (maxEntries - length (map restWord t)) 0) i 0
-  unfolding restWords padded
-  rest-read i h = sym (getD-take maxEntries (W .rests) i 0 h) ∙ ap (λ l. getD l i 0) (L .rests)
-
-  use-read : (i : ℕ) → i < maxFixed → getD (W .uses) i 0 ≡ getD (map useWord (allUses fixed) ++ replicate (maxFixed - length (map useWord (allUses fixed))) greatest) i 0
-  unfolding useWords padded
-  use-read i h = sym (getD-take maxFixed (W .uses) i 0 h) ∙ ap (λ l. getD l i 0) (L .uses)
-
-  -- an entry of the table
-  pub entry-here : (i : ℕ) (x : Entry) (xs : List Entry) → drop i t ≡ x ∷ xs → x ∈ t → entryAt W i ≡ x
-  entry-here i x xs q m =
-      let h : i < maxEntries = omega (arith, drop-inside i t x xs q, P .room) in
-      rw (end-read i h ∙ word-at endWord _ i t x xs q, rest-read i h ∙ word-at restWord _ i t x xs q) (entry-back x (P .small x m))
-
-  -- past the last entry: a unit that is none
-  pub entry-past : (i : ℕ) → drop i t ≡ [] → i < maxEntries → (entryAt W i) .unit ≡ 255
-  unfolding entryOf
-  entry-past i q h =
-      let g : getD (W .ends) i 0 ≡ greatest = end-read i h ∙ rw (length-map t endWord) (word-past endWord greatest (maxEntries - length t) i t (drop-past i t q) (omega (arith, drop-past i t q))) in
-      rw g (omega arith)
-
-  pub use-here : (i : ℕ) (f : Entry) (fs : List Entry) → drop i (allUses fixed) ≡ f ∷ fs → getD (W .uses) i 0 ≡ useWord f
-  use-here i f fs q =
-      let h : i < maxFixed = omega (arith, drop-inside i (allUses fixed) f fs q, P .few-uses) in
-      use-read i h ∙ word-at useWord _ i (allUses fixed) f fs q
-
-  pub use-past : (i : ℕ) → drop i (allUses fixed) ≡ [] → i < maxFixed → getD (W .uses) i 0 ≡ greatest
-  use-past i q h =
-      use-read i h
-      ∙ rw (length-map (allUses fixed) useWord) (word-past useWord greatest (maxFixed - length (allUses fixed)) i (allUses fixed) (drop-past i (allUses fixed) q) (omega (arith, drop-past i (allUses fixed) q)))
-
--- ---- one step, where it is known what is read
-
-module _ (W : Lent) (c : Cursor) (z : c .units ≡ 0 → ⊥) where
-  pub step-no-segment : length (W .froms) ≤ c .segment → stepOf W c ≡ leaveUnit (W .ends) (W .froms) c
-  unfolding stepOf
-  step-no-segment h = rw (ne-eqb _ _ z, le-leb _ _ h)
-
-  pub step-no-entry : maxEntries ≤ c .entry → stepOf W c ≡ leaveUnit (W .ends) (W .froms) c
-  unfolding stepOf
-  step-no-entry h =
-      cond-by (λ m. cond (eqb (c .units) 0) Ends m ≡ leaveUnit (W .ends) (W .froms) c) (leb (length (W .froms)) (c .segment)) _ _ (λ q. rw (ne-eqb _ _ z))
-      (λ q. rw (ne-eqb _ _ z, le-leb _ _ h))
-
-  module _ (a : c .segment < length (W .froms)) (b : c .entry < maxEntries) (x : Entry) (q : entryAt W (c .entry) ≡ x) where
-    here : ValueSegment
-    here = segmentAt (W .froms) (W .tos) (W .values) (c .segment)
-
-    step-unit : stepOf W c ≡ unitStep W c x here
-    unfolding stepOf here
-    step-unit = rw (ne-eqb _ _ z, lt-leb _ _ a, lt-leb _ _ b, q)
-
-    pub step-other : (x .unit ≡ trailingZeros 64 (c .units) → ⊥) → stepOf W c ≡ leaveUnit (W .ends) (W .froms) c
-    unfolding unitStep
-    step-other h = step-unit ∙ rw (ne-eqb _ _ h)
-
-    pub step-entry : x .unit ≡ trailingZeros 64 (c .units) → c .inner ≡ 0 → stepOf W c ≡ entryStep (W .uses) c x (segmentAt (W .froms) (W .tos) (W .values) (c .segment))
-    unfolding unitStep here
-    step-entry h i = step-unit ∙ rw (eq-eqb _ _ h, eq-eqb _ _ i)
-
-    pub step-use : x .unit ≡ trailingZeros 64 (c .units) → (c .inner ≡ 0 → ⊥) → stepOf W c ≡ useStep (W .uses) c x (segmentAt (W .froms) (W .tos) (W .values) (c .segment))
-    unfolding unitStep here
-    step-use h i = step-unit ∙ rw (eq-eqb _ _ h, ne-eqb _ _ i)
 
 -- ---- the fixed uses under an entry
 
@@ -170,9 +78,9 @@ module _ (fixed : List Entry) (t : Table) (W : Lent) (L : Holds fixed t W) (P : 
     goes-on p r = remaining-step W (at-use (p + 1)) ∙ (ap (λ k. emit k (λ d. remaining W d)) r ∙ ap (remaining W) (onward-same (p + 1) 0))
 
     -- no use of the unit any more
-    use-other : (p : ℕ) (f : Entry) (v : ℕ) → p < maxFixed → useOf (getD (W .uses) p 0) ≡ f → (f .unit ≡ x .unit → ⊥) → stepOf W (at-use (p + 1)) ≡ Goes (onward true (at-use (p + 1)) x s)
+    use-other : (p : ℕ) (f : Entry) → p < maxFixed → useOf (getD (W .uses) p 0) ≡ f → (f .unit ≡ x .unit → ⊥) → stepOf W (at-use (p + 1)) ≡ Goes (onward true (at-use (p + 1)) x s)
     unfolding useMeeting
-    use-other p f v h r k = use-step p h ∙ rw (r, ne-eqb _ _ k)
+    use-other p f h r k = use-step p h ∙ rw (r, ne-eqb _ _ k)
 
     unit-known : x .unit ≤ 64
     unit-known = omega (arith, o, trailing-le 64 m)
@@ -186,13 +94,13 @@ module _ (fixed : List Entry) (t : Table) (W : Lent) (L : Holds fixed t W) (P : 
         elim (decLt p maxFixed) as (λ _. remaining W (at-use (p + 1)) ≡ remaining W (onward true (at-use 0) x s)) [
           | yes l ↦
               goes-on p
-              (use-other p (useOf greatest) 0 l (ap useOf (use-past fixed t W L P p r l)) (λ k. omega (arith, past-unit, unit-known, k)))
+              (use-other p (useOf greatest) l (ap useOf (use-past fixed t W L P p r l)) (λ k. omega (arith, past-unit, unit-known, k)))
           | no l ↦ goes-on p (use-end p (omega arith))
         ]
     uses-done (f ∷ fs) p r h =
         let k = h f (List·Memᴰ·head refl) in
         goes-on p
-        (use-other p f 0 (omega (arith, drop-inside p (allUses fixed) f fs r, P .few-uses)) (ap useOf (use-here fixed t W L P p f fs r) ∙ use-back f (k .0)) (k .1))
+        (use-other p f (omega (arith, drop-inside p (allUses fixed) f fs r, P .few-uses)) (ap useOf (use-here fixed t W L P p f fs r) ∙ use-back f (k .0)) (k .1))
 
     module _ (p : ℕ) (f : Entry) (fs : List Entry) (r : drop p (allUses fixed) ≡ f ∷ fs) (k : SmallUse f) (y : f .unit ≡ x .unit) where
       at-this : stepOf W (at-use (p + 1)) ≡ useMeeting (at-use (p + 1)) x s f (useValue (f .reservation))
@@ -336,7 +244,6 @@ module _ (fixed : List Entry) (t : Table) (W : Lent) (L : Holds fixed t W) (P : 
         → remaining W (underEntry (W .uses) (at n e) (x .unit) i) ≡ usesUnder uses n (seg n) i ++ remaining W (onward true (at n e) x (seg n))
     unfolding u uses seg at underEntry usesUnder told s at-use
     underneath i h =
-        let v = sym o in
         let d = uses-at fixed (P .small-uses) (P .use-chain) (x .unit) (omega (arith, o, low)) (W .uses) (L .uses) (P .few-uses) i h in
         use-walk fixed t W L P full m n e z a b x q o (drop i (fixedUses fixed (x .unit))) _ _ d
         (λ f k.
@@ -504,9 +411,6 @@ module _ (fixed : List Entry) (t : Table) (W : Lent) (L : Holds fixed t W) (P : 
           all-behind y (inr j) = omega (arith, follow y j, full-entry, h)
 
       -- they overlap
-      reports : List Interference
-      reports = reportsOf uses n (seg n) x (x .reservation)
-
       on-segment : seg n .to < x .to → onward true (at n e) x (seg n) ≡ at (n + 1) e
       unfolding onward at
       on-segment h = rw (lt-ltb (seg n .to) (x .to) h)
@@ -528,9 +432,6 @@ module _ (fixed : List Entry) (t : Table) (W : Lent) (L : Holds fixed t W) (P : 
 
           now-counts : counts full earlier x ≡ true
           now-counts = c x (on-head (λ l. x ∈ l) (List·Memᴰ·head refl))
-
-          whole : List Entry → List Interference
-          whole l = checkOn full uses l n earlier (seg n ∷ segs (suc n) k)
 
           stays :
               (full || indexed (x .reservation)) ≡ true
@@ -749,9 +650,6 @@ module _ (fixed : List Entry) (t : Table) (W : Lent) (L : Holds fixed t W) (P : 
     where
       from : ℕ
       from = getD (W .froms) 0 0
-
-      all : List ValueSegment
-      all = segmentsFrom (W .froms) (W .tos) (W .values) 0 (length (W .froms))
 
       place : ℕ
       place = below (u * 2 ^ 32 + getD (W .froms) 0 0 + 1) (map endWord t)
