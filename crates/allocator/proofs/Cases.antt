@@ -441,6 +441,13 @@ cases =
       calls = place 0 0 0x00000000 ∷ place 1 0 0x00000000 ∷ evict 1 ∷ [];
       shows = "ok" ∷ "s 0 assigned 0 0 0" ∷ "s 1 unassigned 0" ∷ "q 9223372058329612289" ∷ "l 0:0" ∷ "u 0 4 20 held 0 -" ∷ "refused 14" ∷ "s 0 assigned 0 0 0" ∷ "s 1 unassigned 0" ∷ "q 9223372058329612289" ∷ "l 0:0" ∷ "u 0 4 20 held 0 -" ∷ "refused 13" ∷ "s 0 assigned 0 0 0" ∷ "s 1 unassigned 0" ∷ "q 9223372058329612289" ∷ "l 0:0" ∷ "u 0 4 20 held 0 -" ∷ "h 0 0" ∷ [];
     }
+    ∷
+    -- the key 0: number 0 at stage Split, with no hints and size 0, waits
+    record {
+      job = "0F 01 0100000000000000 01 0100 0100 0A 08000000 0100 0100 20 0100 04000000140000000200";
+      calls = run 1 ∷ run 1 ∷ [];
+      shows = "end spent 1" ∷ "s 0 unassigned 0" ∷ "q 0" ∷ "l" ∷ "u 0 8 10 use 1" ∷ "end done 1" ∷ "s 0 dead" ∷ "q" ∷ "l" ∷ "u 0 8 10 use 1" ∷ [];
+    }
     ∷ []
 
 -- every case shows what it should

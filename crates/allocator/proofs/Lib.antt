@@ -17,7 +17,3 @@ pub mod NeverShared
 pub mod EvictOrder
 pub mod Capacity
 pub mod NotBytes
-pub mod EvictLaws
-pub mod QueueLaws
-pub mod OrderLaws
-pub mod AllocateLaws

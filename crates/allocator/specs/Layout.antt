@@ -26,11 +26,12 @@ unfoldable pub rounds : ℕ → List ℕ → List ℕ
 rounds zero ks = ks
 rounds (suc n) ks = rounds n (pairMax ks) ++ ks
 
+-- a key plus one: number 0 at stage Split, with no hints and size 0, has the key 0, and 0 says that v is not queued
 abbrev pub keyWord : Job → ℕ → Option Stage → ℕ
 keyWord j v none = 0
-keyWord j v (some q) = encode j v q
+keyWord j v (some q) = encode j v q + 1
 
--- word 512 + v is the key of v, or 0 where v is not queued; word i from 1 to 511 is the greater of the words 2 i and 2 i + 1
+-- word 512 + v is the key of v plus one, or 0 where v is not queued; word i from 1 to 511 is the greater of the words 2 i and 2 i + 1
 unfoldable pub queueWords : Job → State → List ℕ
 queueWords j s = 0 ∷ rounds 9 (map (λ v. keyWord j v (getD (s .queued) v none)) (count 0 512))
 

@@ -5,12 +5,8 @@ pub mod Evict
 pub mod Dequeue
 pub mod Run
 pub mod Layout
-pub mod QueueWalk
-pub mod OrderWalk
 pub mod Calls
 pub mod Holding
 pub mod Demand
 pub mod Sheet
 pub mod Script
-pub mod EvictWalk
-pub mod AllocateWalk

@@ -1,12 +1,6 @@
 // The allocator: candidates, queue, eviction, runs and direct calls (`allocator/mod.rs`, `order.rs`, `queue.rs`, `evict.rs`).
 // These are the types that the definitions and contracts speak of.
 
-mod allocate;
-mod evict;
-mod lent;
-mod order;
-mod queue;
-
 // How a virtual register stands. The flag is on once it has evicted another for its preference; the weight says how much it likes the
 // register that it has.
 pub enum Assignment {

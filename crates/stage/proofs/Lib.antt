@@ -1,0 +1,4 @@
+pub mod AllocateLaws
+pub mod OrderLaws
+pub mod QueueLaws
+pub mod EvictLaws

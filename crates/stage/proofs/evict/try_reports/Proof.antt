@@ -1,0 +1,114 @@
+-- The invariant: the walk over the reports still to come, from the cost and the holders so far, finds what the whole walk finds. Assumes nothing.
+use borrow.Author.Needs.{needs}
+use Prim.Native.Nat.{_<_}
+use native.Mathlib.Omega.{arith}
+use mathlib.Core.Path.{_≡_, refl, sym, _∙_}
+use lib.ListN.{length, length-set, length-replicate}
+use borrow.Author.Tests.{lt-ltb, le-ltb, not-true, not-false}
+use Rattle.reg_matrix.specs.Walk.{lent, remaining}
+use Rattle.stage.specs.EvictWalk.{tryReports, triedOf}
+use Rattle.stage.proofs.EvictLaws.{next-less, try-end, try-fixed, try-new, try-old, try-far}
+use Rattle.stage.proofs.evict.try_reports.Statement.{statement}
+use Rattle.stage.proofs.evict.try_reports.Tie as tie
+
+abbrev Inv-loop : tie.InvT-loop
+Inv-loop spills ends rests uses froms tos values records cost₀ every-report₀ holders₀ c₀ cost every-report holders c = (length holders ≡ 512) × (tryReports records spills (remaining (lent ends rests uses froms tos values) c) cost every-report holders ≡ triedOf records spills (remaining (lent ends rests uses froms tos values) c₀))
+
+abbrev μ-loop : tie.MeasureT-loop
+μ-loop spills ends rests uses froms tos values records cost₀ every-report₀ holders₀ c₀ cost every-report holders c = length (remaining (lent ends rests uses froms tos values) c)
+
+loop-holds : tie.Need-loop-holds Inv-loop μ-loop
+unfolding triedOf
+loop-holds c = (refl, refl)
+
+next-requires : tie.Need-next-requires Inv-loop μ-loop
+next-requires c κs = search needs
+
+enum-known-report : tie.Need-enum-known-report Inv-loop μ-loop
+enum-known-report c = search needs
+
+enum-told : tie.Need-enum-told Inv-loop μ-loop
+enum-told c = search needs
+
+returns : tie.Need-returns Inv-loop μ-loop
+returns c = try-end _ _ _ _ _ _ _ _ (c .before .before .next .ensures .told) (c .enum-told .given .1) ∙ c .before .before .before .loop .inv .1
+
+enum-known-kind : tie.Need-enum-known-kind Inv-loop μ-loop
+enum-known-kind c = search needs
+
+enum-told-2 : tie.Need-enum-told-2 Inv-loop μ-loop
+enum-told-2 c = search needs
+
+returns-2 : tie.Need-returns-2 Inv-loop μ-loop
+returns-2 c = try-fixed _ _ _ _ _ _ _ _ (c .before .before .before .before .before .next .ensures .told) _ _ (c .before .before .before .report .given .1) (c .enum-told2 .given .1) ∙ c .before .before .before .before .before .before .loop .inv .1
+
+cast-i : tie.Need-cast-i Inv-loop μ-loop
+cast-i c = search needs
+
+mul-a : tie.Need-mul-a Inv-loop μ-loop
+mul-a c = search needs
+
+array-copy-out-a : tie.Need-array-copy-out-a Inv-loop μ-loop
+array-copy-out-a c = search needs
+
+held-weight-requires : tie.Need-held-weight-requires Inv-loop μ-loop
+held-weight-requires c κs = search needs
+
+array-read-if2 : tie.Need-array-read-if2 Inv-loop μ-loop
+array-read-if2 c = search needs
+
+array-write-holders : tie.Need-array-write-holders Inv-loop μ-loop
+array-write-holders c = search needs
+
+weight-at-requires : tie.Need-weight-at-requires Inv-loop μ-loop
+weight-at-requires c κs = search needs
+
+add-holder-requires : tie.Need-add-holder-requires Inv-loop μ-loop
+add-holder-requires c κs = search needs
+
+loop-less : tie.Need-loop-less Inv-loop μ-loop
+loop-less c = next-less _ _ _ (c .before .before .before .before .before .before .before .before .before .before .before .before .next .ensures .told) _ _ (c .before .before .before .before .before .before .before .before .before .before .report .given .1)
+
+loop-again : tie.Need-loop-again Inv-loop μ-loop
+loop-again c = (simp length-set (c .before .before .before .before .before .before .before .before .before .before .before .before .before .loop .inv .0), rw (c .add-holder .ensures, c .before .weight-at .ensures, c .before .before .before .held-weight .ensures) (try-new _ _ _ _ _ _ _ _ (c .before .before .before .before .before .before .before .before .before .before .before .before .next .ensures .told) _ _ (c .before .before .before .before .before .before .before .before .before .before .report .given .1) _ (c .before .before .before .before .before .before .before .kind .given .1) (lt-ltb _ _ (c .before .before .before .before .before .if1 .taken)) (not-true _ (c .before .before .if2 .taken)) ∙ c .before .before .before .before .before .before .before .before .before .before .before .before .before .loop .inv .1))
+
+loop-less-2 : tie.Need-loop-less-2 Inv-loop μ-loop
+loop-less-2 c = next-less _ _ _ (c .before .before .before .before .before .before .before .before .before .before .next .ensures .told) _ _ (c .before .before .before .before .before .before .before .before .report .given .1)
+
+loop-again-2 : tie.Need-loop-again-2 Inv-loop μ-loop
+loop-again-2 c = (c .before .before .before .before .before .before .before .before .before .before .before .loop .inv .0, rw (c .before .held-weight .ensures) (try-old _ _ _ _ _ _ _ _ (c .before .before .before .before .before .before .before .before .before .before .next .ensures .told) _ _ (c .before .before .before .before .before .before .before .before .report .given .1) _ (c .before .before .before .before .before .kind .given .1) (lt-ltb _ _ (c .before .before .before .if1 .taken)) (not-false _ (c .if2 .left)) ∙ c .before .before .before .before .before .before .before .before .before .before .before .loop .inv .1))
+
+loop-less-3 : tie.Need-loop-less-3 Inv-loop μ-loop
+loop-less-3 c = next-less _ _ _ (c .before .before .before .before .before .before .before .next .ensures .told) _ _ (c .before .before .before .before .before .report .given .1)
+
+loop-again-3 : tie.Need-loop-again-3 Inv-loop μ-loop
+loop-again-3 c = (c .before .before .before .before .before .before .before .before .loop .inv .0, try-far _ _ _ _ _ _ _ _ (c .before .before .before .before .before .before .before .next .ensures .told) _ _ (c .before .before .before .before .before .report .given .1) _ (c .before .before .kind .given .1) (le-ltb _ _ (c .if1 .left)) ∙ c .before .before .before .before .before .before .before .before .loop .inv .1)
+
+pub try-reports-spec : {M : Type 1} → statement M
+try-reports-spec =
+    tie.close
+    (tie.spec
+    Inv-loop
+    μ-loop
+    loop-holds
+    next-requires
+    enum-known-report
+    enum-told
+    returns
+    enum-known-kind
+    enum-told-2
+    returns-2
+    cast-i
+    mul-a
+    array-copy-out-a
+    held-weight-requires
+    array-read-if2
+    array-write-holders
+    weight-at-requires
+    add-holder-requires
+    loop-less
+    loop-again
+    loop-less-2
+    loop-again-2
+    loop-less-3
+    loop-again-3)

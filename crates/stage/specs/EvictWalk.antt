@@ -1,0 +1,65 @@
+-- Costs in the shape of the code: over records, spill weights and a check's reports. Laws in proofs/EvictLaws.antt tie them to Evict.antt. Assumes
+-- nothing.
+use Prim.Native.Nat.{ℕ}
+use mathlib.Core.List.{List, [], _∷_}
+use mathlib.Core.Bool.{Bool, true, false, not, _&&_, _||_, cond}
+use lib.Dec.{ltb}
+use lib.Ieee.{Float, nan, binary32, add, lt, eq}
+use lib.ListN.{getD, set, replicate}
+use Rattle.reg_matrix.specs.declared.Interference.{Interference}
+use Rattle.reg_matrix.specs.declared.InterferenceKind.{InterferenceKind}
+use Rattle.reg_matrix.specs.declared.InterferenceKind.the-variants.{Fixed, VirtReg}
+use Rattle.job.specs.Model.{zeroWeight}
+use Rattle.allocator.specs.declared.Assignment.{Assignment}
+use Rattle.allocator.specs.declared.Assignment.the-variants.{Assigned, Unassigned, Dead}
+use Rattle.reg_matrix.specs.Lists.{foldl, has}
+use Rattle.allocator.specs.Evict.{maxWeight}
+use Rattle.allocator.specs.declared.EvictCost.{EvictCost}
+use Rattle.stage.specs.declared.evict.Tried.{Tried}
+
+abbrev pub recordWeight : Assignment → Float
+recordWeight (Assigned f r w) = w
+recordWeight (Unassigned f) = zeroWeight
+recordWeight Dead = zeroWeight
+
+abbrev pub addHolder : EvictCost → Float → Float → EvictCost
+addHolder k w s = record { «preference_weight» = add binary32 (k .«preference_weight») w; «spill_weight» = maxWeight (k .«spill_weight») s }
+
+abbrev pub mayEvict : Float → Bool → Float → Float → Bool
+mayEvict w flag spill own = lt spill own || (not flag && not (eq w zeroWeight))
+
+-- what a place past the records reads
+abbrev pub noRecord : Assignment
+noRecord = Assigned false 0 nan
+
+-- the cost with the holder v more
+abbrev pub holderCost : List Assignment → List Float → EvictCost → ℕ → EvictCost
+holderCost rs ss k v = addHolder k (recordWeight (getD rs v noRecord)) (getD ss v zeroWeight)
+
+abbrev pub zeroCost : EvictCost
+zeroCost = record { «preference_weight» = zeroWeight; «spill_weight» = zeroWeight }
+
+abbrev pub tried : EvictCost → Float → List Bool → Bool → Tried
+tried k w seen out = record { cost = k; «every_report» = w; holders = seen; «ruled_out» = out }
+
+-- the weight with which v holds its register
+abbrev pub weightIn : List Assignment → ℕ → Float
+weightIn rs v = recordWeight (getD rs v noRecord)
+
+abbrev pub onKind : InterferenceKind → Tried → (ℕ → Tried) → Tried
+onKind Fixed out more = out
+onKind (VirtReg v) out more = more v
+
+-- The reports one after another: a holder that was not seen yet adds its cost, every report adds the holder's weight to w, and a fixed one ends
+-- it. Numbers from 512 on, which no table has, are passed over.
+unfoldable pub tryReports : List Assignment → List Float → List Interference → EvictCost → Float → List Bool → Tried
+tryReports rs ss [] k w seen = tried k w seen false
+tryReports rs ss (x ∷ xs) k w seen =
+    onKind (x .kind) (tried k w seen true)
+    (λ v.
+    cond (ltb v 512)
+    (cond (getD seen v false) (tryReports rs ss xs k (add binary32 w (weightIn rs v)) seen) (tryReports rs ss xs (holderCost rs ss k v) (add binary32 w (weightIn rs v)) (set seen v true)))
+    (tryReports rs ss xs k w seen))
+
+unfoldable pub triedOf : List Assignment → List Float → List Interference → Tried
+triedOf rs ss xs = tryReports rs ss xs zeroCost zeroWeight (replicate 512 false)

@@ -1,0 +1,4 @@
+pub mod QueueWalk
+pub mod EvictWalk
+pub mod AllocateWalk
+pub mod OrderWalk

@@ -1,0 +1,134 @@
+// Costs of an eviction (`evict.rs`): two weights held together and replaced together.
+ghost use mathlib.Core.Path.{_≡_};
+ghost use Rattle.allocator.specs.Evict.{maxWeight, cheaper};
+ghost use Rattle.stage.specs.EvictWalk.{recordWeight, addHolder, mayEvict, triedOf};
+ghost use Rattle.reg_matrix.specs.Walk.{lent, remaining};
+use crate::lent::weight_at;
+use allocator::Assignment;
+use allocator::EvictCost;
+use reg_matrix::Cursor;
+use reg_matrix::InterferenceKind;
+use reg_matrix::Step;
+
+// What a check's reports say of a candidate: the cost with each holder counted once, the holders' weights added at every report, who the
+// holders are, and whether a fixed report rules the candidate out.
+pub struct Tried {
+    pub cost: EvictCost,
+    pub every_report: f32,
+    pub holders: [bool; 512],
+    pub ruled_out: bool,
+}
+
+// The weight with which a record holds its register, or 0.
+pub fn held_weight(a: Assignment) -> f32
+    ensures { λ r. ⌜ r ≡ recordWeight a ⌝ }
+{
+    match a {
+        Assignment::Assigned {
+            evicted_for_preference: _,
+            reg: _,
+            preference_weight,
+        } => preference_weight,
+        Assignment::Unassigned {
+            evicted_for_preference: _,
+        } => 0.0,
+        Assignment::Dead => 0.0,
+    }
+}
+
+// The heavier of two weights.
+pub fn heavier(a: f32, b: f32) -> f32
+    ensures { λ r. ⌜ r ≡ maxWeight a b ⌝ }
+{
+    if a < b { b } else { a }
+}
+
+// The cost with one holder more.
+pub fn add_holder(cost: EvictCost, held: f32, spill: f32) -> EvictCost
+    ensures { λ r. ⌜ r ≡ addHolder cost held spill ⌝ }
+{
+    EvictCost {
+        preference_weight: cost.preference_weight + held,
+        spill_weight: heavier(cost.spill_weight, spill),
+    }
+}
+
+// Whether the first cost is less: the preference sum first, then the spill maximum.
+pub fn is_cheaper(a: EvictCost, b: EvictCost) -> bool
+    ensures { λ r. ⌜ r ≡ cheaper a b ⌝ }
+{
+    if a.preference_weight < b.preference_weight {
+        return true;
+    }
+    if a.preference_weight == b.preference_weight {
+        a.spill_weight < b.spill_weight
+    } else {
+        false
+    }
+}
+
+// Whether a candidate of this weight may evict holders of this spill weight for a number with this flag and spill weight.
+pub fn may_evict(weight: f32, flag: bool, spill: f32, own: f32) -> bool
+    ensures { λ r. ⌜ r ≡ mayEvict weight flag spill own ⌝ }
+{
+    if spill < own {
+        return true;
+    }
+    if flag {
+        return false;
+    }
+    if weight == 0.0 { false } else { true }
+}
+
+// What a check reports from a position on: each holder once for the cost, and at every report for the sum, in the order of the reports.
+pub fn try_reports(
+    records: [Assignment; 512],
+    spills: &[f32],
+    start: Cursor,
+    ends: &[u64],
+    rests: &[u64],
+    uses: &[u64],
+    froms: &[u32],
+    tos: &[u32],
+    values: &[u16],
+) -> Tried
+    ensures { λ r. ⌜ r ≡ triedOf records (now (spills .entry)) (remaining (lent (now (ends .entry)) (now (rests .entry)) (now (uses .entry)) (now (froms .entry)) (now (tos .entry)) (now (values .entry))) start) ⌝ }
+{
+    let mut cost = EvictCost {
+        preference_weight: 0.0,
+        spill_weight: 0.0,
+    };
+    let mut every_report = 0.0;
+    let mut holders = [false; 512];
+    let mut c = start;
+    loop {
+        let Step::Report(report, next) = c.next(ends, rests, uses, froms, tos, values) else {
+            return Tried {
+                cost,
+                every_report,
+                holders,
+                ruled_out: false,
+            };
+        };
+        let kind = report.kind;
+        let InterferenceKind::VirtReg(v) = kind else {
+            return Tried {
+                cost,
+                every_report,
+                holders,
+                ruled_out: true,
+            };
+        };
+        c = next;
+        let i = v as usize;
+        if i < 512 {
+            let a = records[i];
+            let held = held_weight(a);
+            every_report = every_report + held;
+            if !holders[i] {
+                holders[i] = true;
+                cost = add_holder(cost, held, weight_at(spills, i));
+            }
+        }
+    }
+}
