@@ -22,3 +22,4 @@ pub mod Lying
 pub mod Placed
 pub mod Evicted
 pub mod Moving
+pub mod Asked

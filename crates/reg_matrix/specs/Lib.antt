@@ -9,3 +9,4 @@ pub mod Layout
 pub mod Moves
 pub mod Placing
 pub mod Search
+pub mod Reserving

@@ -3,6 +3,7 @@
 
 mod assign;
 mod lent;
+mod reserve;
 mod search;
 mod table;
 mod unit_free;
