@@ -23,3 +23,4 @@ pub mod Placed
 pub mod Evicted
 pub mod Moving
 pub mod Asked
+pub mod Reserved
