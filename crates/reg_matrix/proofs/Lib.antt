@@ -24,3 +24,4 @@ pub mod Evicted
 pub mod Moving
 pub mod Asked
 pub mod Reserved
+pub mod Answered

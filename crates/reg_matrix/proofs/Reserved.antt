@@ -1,8 +1,9 @@
 -- Loading in lent numbers: the empty layout is that of no reservations, and a reservation put in is put into the table and, if it is a use,
 -- among the fixed uses. Assumes nothing.
-use Prim.Native.Nat.{ℕ, suc, _+_, _-_, _*_, _%_, _^_, _≤_, _<_}
+use Prim.Native.Nat.{ℕ, zero, suc, _+_, _-_, _*_, _%_, _^_, _≤_, _<_}
 use native.Mathlib.Omega.{arith}
 use mathlib.Core.Path.{_≡_, refl, sym, ap, ap₂, _∙_}
+use mathlib.Core.Logic.{_⊎_, inl, inr}
 use mathlib.Core.List.{List, [], _∷_, _++_, map, append-assoc, append-nil, List·Memᴰ·head, List·Memᴰ·tail}
 use mathlib.Core.Bool.{Bool, true, false, _&&_}
 use lib.Dec.{T, ltb, eqb}
@@ -19,6 +20,7 @@ use Rattle.reg_matrix.specs.Reserving.{filled, insertingWord}
 use Rattle.reg_matrix.specs.declared.Entry.{Entry}
 use Rattle.reg_matrix.specs.declared.Reservation.{Reservation}
 use Rattle.reg_matrix.specs.declared.Reservation.the-variants.{FixedDef}
+use Rattle.reg_matrix.proofs.Tests.{less-equal-greater}
 use Rattle.reg_matrix.proofs.Members.{_∈_, concat-none, count-out}
 use Rattle.reg_matrix.proofs.Sorted.{Sorted}
 use Rattle.reg_matrix.proofs.Chains.{Sound}
@@ -188,3 +190,44 @@ module _ (t : Table) (et rt : List ℕ) (w : Words) (st : Stands t et rt w) (so 
   def-stands h =
       let q : e .from * 2 ^ 32 ≡ restWord e = sym (ap (λ (r : Reservation). e .from * 2 ^ 32 + reservationWord r) h ∙ omega arith) in
       rw q (insert-stands t et rt w st so sm room e (record { unit = se .unit; to = se .to }))
+
+-- ---- no more uses than reservations
+
+module _ (x : Entry) (xs : List Entry) where
+  skips : (k : ℕ) → (x .unit ≡ k → ⊥) → fixedUses (x ∷ xs) k ≡ fixedUses xs k
+  unfolding fixedUses filter
+  skips k h = rw (ne-eqb (x .unit) k h)
+
+  one-longer : (k : ℕ) → length (fixedUses (x ∷ xs) k) ≤ suc (length (fixedUses xs k))
+  unfolding fixedUses filter
+  one-longer k = go (eqb (x .unit) k && isUse (x .reservation))
+    where
+      go : (b : Bool) → length (keep b x (fixedUses xs k)) ≤ suc (length (fixedUses xs k))
+      go true = omega arith
+      go false = omega arith
+
+  one-more-use : (k n : ℕ) → length (concatMap (fixedUses (x ∷ xs)) (count k n)) ≤ suc (length (concatMap (fixedUses xs) (count k n)))
+  unfolding concatMap count
+  one-more-use k zero = omega arith
+  one-more-use k (suc n) = go (split (less-equal-greater (x .unit) k)) (one-more-use (suc k) n)
+    where
+      split : (x .unit < k) ⊎ ((x .unit ≡ k) ⊎ (k < x .unit)) → (x .unit ≡ k) ⊎ (x .unit ≡ k → ⊥)
+      split (inl h) = inr (λ q. omega arith)
+      split (inr (inl q)) = inl q
+      split (inr (inr h)) = inr (λ q. omega arith)
+
+      go :
+          (x .unit ≡ k) ⊎ (x .unit ≡ k → ⊥)
+          → length (concatMap (fixedUses (x ∷ xs)) (count (suc k) n)) ≤ suc (length (concatMap (fixedUses xs) (count (suc k) n)))
+          → length (fixedUses (x ∷ xs) k ++ concatMap (fixedUses (x ∷ xs)) (count (suc k) n)) ≤ suc (length (fixedUses xs k ++ concatMap (fixedUses xs) (count (suc k) n)))
+      go (inl q) ih =
+          let s : concatMap (fixedUses (x ∷ xs)) (count (suc k) n) ≡ concatMap (fixedUses xs) (count (suc k) n) =
+          concat-same (fixedUses (x ∷ xs)) (fixedUses xs) (count (suc k) n) (λ j m. skips j (λ p. omega (arith, p, q, count-out (suc k) n j m .0))) in
+          rw s (omega (arith, one-longer k, length-append (fixedUses (x ∷ xs) k) (concatMap (fixedUses xs) (count (suc k) n)), length-append (fixedUses xs k) (concatMap (fixedUses xs) (count (suc k) n))))
+      go (inr q) ih =
+          rw (skips k q)
+          (omega (arith, ih, length-append (fixedUses xs k) (concatMap (fixedUses (x ∷ xs)) (count (suc k) n)), length-append (fixedUses xs k) (concatMap (fixedUses xs) (count (suc k) n))))
+
+pub uses-few : (fixed : List Entry) → length (allUses fixed) ≤ length fixed
+uses-few [] = omega (arith, ap (λ (l : List Entry). length l) no-uses)
+uses-few (x ∷ xs) = omega (arith, one-more-use x xs 0 64, uses-few xs)
