@@ -145,7 +145,7 @@ use-rest (Held v i) h = absurd h
 use-rest (FixedUse x) h = refl
 use-rest FixedDef h = absurd h
 
-inserting-use : (e : Entry) → SmallFixed e → T (isUse (e .reservation)) → (w : Words) → insertingUse (useWord e) w ≡ inserting (endWord e) (restWord e) w
+pub inserting-use : (e : Entry) → SmallFixed e → T (isUse (e .reservation)) → (w : Words) → insertingUse (useWord e) w ≡ inserting (endWord e) (restWord e) w
 unfolding insertingUse
 inserting-use e s h w =
     let a : useWord e / 2 ^ 48 ≡ e .unit = omega (arith, s .from, s .value) in
@@ -213,7 +213,7 @@ map-drop f (suc i) [] = refl
 map-drop f (suc i) (x ∷ us) = map-drop f i us
 
 module _ (fixed : List Entry) (u : ℕ) where
-  units-split :
+  pub units-split :
       (k n : ℕ)
       → k ≤ u
       → u < k + n

@@ -31,3 +31,6 @@ pub mod Lying
 pub mod Placed
 pub mod Evicted
 pub mod Moving
+pub mod Asked
+pub mod Reserved
+pub mod Answered

@@ -169,6 +169,15 @@ module _ (fixed : List Entry) (sd : Sound fixed) (sm : AllSmall fixed) where
           (unit-below u p (fixedUses fixed u) (λ x m. let l = fixedUses-out fixed u x m in (l .1, sm x (l .0)))) in
           rw e (omega (arith, d, f))
 
+  -- how many there are
+  pub use-count : (ut uses : List ℕ) → UsesLie fixed ut uses → placeOf maxFixed uses greatest ≡ length (allUses fixed)
+  unfolding useWords
+  use-count ut uses lie =
+      ap (λ (l : List ℕ). placeOf maxFixed l greatest) (lie .are)
+      ∙ found-padded maxFixed (map useWord (allUses fixed)) greatest ut greatest (simp length-map (lie .few)) (all-rise 0 64) all-small (omega arith)
+      ∙ below-all greatest (map useWord (allUses fixed)) all-small
+      ∙ length-map (allUses fixed) useWord
+
   module _ (ut uses : List ℕ) (lie : UsesLie fixed ut uses) (u : ℕ) (small : u < 64) where
     -- the number of uses of lower units
     unfoldable pub first-use : ℕ

@@ -197,16 +197,16 @@ insert-length e (x ∷ t) = go (before e x) (insert-length e t)
     go true ih = refl
     go false ih = ap suc ih
 
--- one of the two slices: d is what fills it up
-module _ (f : Entry → ℕ) (d : ℕ) (t : Table) (behind : List ℕ) where
-  room-inserted : (e : Entry) (p : ℕ) → length t < maxEntries → p ≤ length t → inserted (length t + 1) p (f e) (padded maxEntries d (map f t) ++ behind) ≡ padded maxEntries d (map f (take p t ++ e ∷ drop p t)) ++ behind
+-- one of the slices: size places, and d is what fills it up
+module _ (size : ℕ) (f : Entry → ℕ) (d : ℕ) (t : Table) (behind : List ℕ) where
+  pub room-inserted : (e : Entry) (p : ℕ) → length t < size → p ≤ length t → inserted (length t + 1) p (f e) (padded size d (map f t) ++ behind) ≡ padded size d (map f (take p t ++ e ∷ drop p t)) ++ behind
   unfolding padded
   room-inserted e p h k =
       let l : length (map f t) ≡ length t = length-map t f in
-      let m : maxEntries - length (map f t) ≡ suc (maxEntries - suc (length t)) = omega (arith, l) in
+      let m : size - length (map f t) ≡ suc (size - suc (length t)) = omega (arith, l) in
       let u : length (map f (take p t ++ e ∷ drop p t)) ≡ suc (length t) = put-length in
       let v : p ≤ length (map f t) = omega (arith, l) in
-      rw (m, append-assoc, ← l, inserted-room p (map f t) (f e) d (replicate (maxEntries - suc (length (map f t))) d ++ behind) v, ← put-map f e p t, u, ← l, append-assoc)
+      rw (m, append-assoc, ← l, inserted-room p (map f t) (f e) d (replicate (size - suc (length (map f t))) d ++ behind) v, ← put-map f e p t, u, ← l, append-assoc)
     where
       put-length : length (map f (take p t ++ e ∷ drop p t)) ≡ suc (length t)
       put-length = length-map (take p t ++ e ∷ drop p t) f ∙ length-append (take p t) (e ∷ drop p t) ∙ omega (arith, length-take p t, length-drop p t)
@@ -224,8 +224,8 @@ unfolding endWords restWords inserting
 insert-stands t et rt w st so sm room e se =
     record {
       few = omega (arith, insert-length e t);
-      ends-are = is-done .0 ∙ ap (λ (l : List ℕ). inserted (length t + 1) p (endWord e) l) (st .ends-are) ∙ room-inserted endWord greatest t et e p room within ∙ same endWord greatest et;
-      rests-are = is-done .1 ∙ ap (λ (l : List ℕ). inserted (length t + 1) p (restWord e) l) (st .rests-are) ∙ room-inserted restWord 0 t rt e p room within ∙ same restWord 0 rt;
+      ends-are = is-done .0 ∙ ap (λ (l : List ℕ). inserted (length t + 1) p (endWord e) l) (st .ends-are) ∙ room-inserted maxEntries endWord greatest t et e p room within ∙ same endWord greatest et;
+      rests-are = is-done .1 ∙ ap (λ (l : List ℕ). inserted (length t + 1) p (restWord e) l) (st .rests-are) ∙ room-inserted maxEntries restWord 0 t rt e p room within ∙ same restWord 0 rt;
     }
   where
     p : ℕ

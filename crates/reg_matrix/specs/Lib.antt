@@ -10,3 +10,4 @@ pub mod Moves
 pub mod Placing
 pub mod Search
 pub mod Walk
+pub mod Reserving

@@ -274,5 +274,5 @@ pub fn evict(
         return Moved::Refused(8);
     }
     evict_units(ends, rests, uses, v, map, tos);
-    Moved::Done
+    Moved::Done // evicted
 }

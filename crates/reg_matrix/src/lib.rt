@@ -1,13 +1,14 @@
 // The reservation matrix: which virtual register or fixed operand has a register unit, and when (`reg_matrix.rs`, `live_range.rs`).
 // These are the types that the definitions and every contract above speak of.
 
-mod assign;
+pub mod assign;
 pub mod check;
 mod lent;
 mod ranges;
+pub mod reserve;
 mod search;
 mod table;
-mod unit_free;
+pub mod unit_free;
 mod words;
 
 // A part of a virtual register's live range, half-open, with the value that lives in it. A point's low two bits are its slot.
