@@ -6,8 +6,3 @@ pub mod Assign
 pub mod Questions
 pub mod Lines
 pub mod Layout
-pub mod Moves
-pub mod Placing
-pub mod Search
-pub mod Walk
-pub mod Reserving

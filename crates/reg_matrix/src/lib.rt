@@ -1,16 +1,6 @@
 // The reservation matrix: which virtual register or fixed operand has a register unit, and when (`reg_matrix.rs`, `live_range.rs`).
 // These are the types that the definitions and every contract above speak of.
 
-pub mod assign;
-pub mod check;
-mod lent;
-mod ranges;
-pub mod reserve;
-mod search;
-mod table;
-pub mod unit_free;
-mod words;
-
 // A part of a virtual register's live range, half-open, with the value that lives in it. A point's low two bits are its slot.
 pub struct ValueSegment {
     pub from: u32,
@@ -52,45 +42,4 @@ pub struct Interference {
     pub from: u32,
     pub to: u32,
     pub kind: InterferenceKind,
-}
-
-// A position of a check: the units of the register's map that are still to be walked, the current one the lowest; the segment and the
-// entry that are compared next; 0, or one more than the place of the next fixed use under that entry; and which form is asked for.
-pub struct Cursor {
-    pub units: u64,
-    pub segment: usize,
-    pub entry: usize,
-    pub inner: usize,
-    pub full: bool,
-}
-
-// One step of a check: it meets something and goes on, goes on, or ends.
-enum Move {
-    Meets(Interference, Cursor),
-    Goes(Cursor),
-    Ends,
-}
-
-// What a check answers: a report with the next position, or its end.
-pub enum Step {
-    Report(Interference, Cursor),
-    End,
-}
-
-// How a check starts: at a position, or refused with the refusal's number.
-pub enum Start {
-    Checking(Cursor),
-    Refused(u8),
-}
-// What placing or evicting answers: it is done, or the number of a refusal, which has changed nothing.
-pub enum Moved {
-    Done,
-    Refused(u8),
-}
-
-// Whether a unit is spare over a range: free, taken, or the number of a refusal.
-pub enum UnitFree {
-    Free,
-    Taken,
-    NotAsked(u8),
 }

@@ -11,11 +11,11 @@ use lib.ListN.{length, getD, drop, drop-of-length-le}
 use lib.Seq.{drop-cons}
 use native.Mathlib.Numerals.{add-one}
 use Rattle.reg_matrix.specs.Lists.{isNil, foldl}
-use Rattle.reg_matrix.specs.Walk.{Lent, remaining, heard, entered}
+use Rattle.matrix.specs.Walk.{Lent, remaining, heard, entered}
 use Rattle.reg_matrix.specs.declared.Interference.{Interference}
-use Rattle.reg_matrix.specs.declared.Cursor.{Cursor}
-use Rattle.reg_matrix.specs.declared.Step.{Step}
-use Rattle.reg_matrix.specs.declared.Step.the-variants.{Report, End}
+use Rattle.matrix.specs.declared.Cursor.{Cursor}
+use Rattle.matrix.specs.declared.Step.{Step}
+use Rattle.matrix.specs.declared.Step.the-variants.{Report, End}
 use Rattle.allocator.specs.declared.CandidateReg.{CandidateReg}
 use Rattle.allocator.specs.declared.Assignment.{Assignment}
 use Rattle.stage.specs.EvictWalk.{triedOf}

@@ -13,10 +13,10 @@ use Rattle.reg_matrix.specs.Lists.{foldl, concatMap, any, has, keep}
 use Rattle.reg_matrix.specs.declared.Interference.{Interference}
 use Rattle.reg_matrix.specs.declared.InterferenceKind.{InterferenceKind}
 use Rattle.reg_matrix.specs.declared.InterferenceKind.the-variants.{Fixed, VirtReg}
-use Rattle.reg_matrix.specs.Walk.{Lent, remaining, heard}
-use Rattle.reg_matrix.specs.declared.Cursor.{Cursor}
-use Rattle.reg_matrix.specs.declared.Step.{Step}
-use Rattle.reg_matrix.specs.declared.Step.the-variants.{Report, End}
+use Rattle.matrix.specs.Walk.{Lent, remaining, heard}
+use Rattle.matrix.specs.declared.Cursor.{Cursor}
+use Rattle.matrix.specs.declared.Step.{Step}
+use Rattle.matrix.specs.declared.Step.the-variants.{Report, End}
 use Rattle.job.specs.Model.{Job, zeroWeight}
 use Rattle.allocator.specs.State.{State, heldBy, weightOf}
 use Rattle.allocator.specs.declared.Assignment.{Assignment}

@@ -5,7 +5,7 @@ use mathlib.Core.Bool.{Bool, true, false, not, _&&_, cond}
 use lib.Ieee.{Float, lt}
 use lib.ListN.{getD, replicate}
 use Rattle.reg_matrix.specs.Lists.{isNil, foldl}
-use Rattle.reg_matrix.specs.Walk.{Lent, entered, remaining}
+use Rattle.matrix.specs.Walk.{Lent, entered, remaining}
 use Rattle.reg_matrix.specs.declared.Interference.{Interference}
 use Rattle.job.specs.Model.{zeroWeight}
 use Rattle.allocator.specs.declared.CandidateReg.{CandidateReg}

@@ -3,7 +3,7 @@ ghost use mathlib.Core.Path.{_≡_};
 ghost use mathlib.Core.Bool.{false};
 ghost use mathlib.Core.List.{List};
 ghost use Rattle.reg_matrix.specs.Lists.{isNil};
-ghost use Rattle.reg_matrix.specs.Walk.{lent};
+ghost use Rattle.matrix.specs.Walk.{lent};
 ghost use Rattle.allocator.specs.declared.CandidateReg.{CandidateReg};
 ghost use Rattle.stage.specs.OrderWalk.{Computed, offersFrom};
 ghost use Rattle.stage.specs.EvictWalk.{triedOf};
@@ -23,8 +23,8 @@ use crate::order::candidate;
 use allocator::Assignment;
 use allocator::CandidateReg;
 use allocator::EvictCost;
-use reg_matrix::Step;
-use reg_matrix::check::enter;
+use matrix::Step;
+use matrix::check::enter;
 
 // The first candidate that is clear; or none is; or there are no candidates.
 pub enum Available {

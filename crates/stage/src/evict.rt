@@ -2,13 +2,13 @@
 ghost use mathlib.Core.Path.{_≡_};
 ghost use Rattle.allocator.specs.Evict.{maxWeight, cheaper};
 ghost use Rattle.stage.specs.EvictWalk.{recordWeight, addHolder, mayEvict, triedOf};
-ghost use Rattle.reg_matrix.specs.Walk.{lent, remaining};
+ghost use Rattle.matrix.specs.Walk.{lent, remaining};
 use crate::lent::weight_at;
 use allocator::Assignment;
 use allocator::EvictCost;
-use reg_matrix::Cursor;
+use matrix::Cursor;
+use matrix::Step;
 use reg_matrix::InterferenceKind;
-use reg_matrix::Step;
 
 // What a check's reports say of a candidate: the cost with each holder counted once, the holders' weights added at every report, who the
 // holders are, and whether a fixed report rules the candidate out.

@@ -6,7 +6,7 @@ use mathlib.Core.Path.{_≡_, refl, sym, _∙_}
 use mathlib.Core.List.{List}
 use mathlib.Core.Bool.{false}
 use lib.ListN.{length}
-use Rattle.reg_matrix.specs.Walk.{lent}
+use Rattle.matrix.specs.Walk.{lent}
 use Rattle.allocator.specs.declared.CandidateReg.{CandidateReg}
 use Rattle.stage.specs.OrderWalk.{Computed, offersFrom}
 use Rattle.stage.specs.AllocateWalk.{clearOn, availableIn}

@@ -5,7 +5,7 @@ use native.Mathlib.Omega.{arith}
 use mathlib.Core.Path.{_≡_, refl, sym, _∙_}
 use mathlib.Core.List.{List}
 use lib.ListN.{length, drop}
-use Rattle.reg_matrix.specs.Walk.{lent}
+use Rattle.matrix.specs.Walk.{lent}
 use Rattle.allocator.specs.declared.CandidateReg.{CandidateReg}
 use Rattle.stage.specs.OrderWalk.{Computed}
 use Rattle.stage.specs.AllocateWalk.{preferIn}

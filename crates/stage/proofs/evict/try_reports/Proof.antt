@@ -5,7 +5,7 @@ use native.Mathlib.Omega.{arith}
 use mathlib.Core.Path.{_≡_, refl, sym, _∙_}
 use lib.ListN.{length, length-set, length-replicate}
 use borrow.Author.Tests.{lt-ltb, le-ltb, not-true, not-false}
-use Rattle.reg_matrix.specs.Walk.{lent, remaining}
+use Rattle.matrix.specs.Walk.{lent, remaining}
 use Rattle.stage.specs.EvictWalk.{tryReports, triedOf}
 use Rattle.stage.proofs.EvictLaws.{next-less, try-end, try-fixed, try-new, try-old, try-far}
 use Rattle.stage.proofs.evict.try_reports.Statement.{statement}
