@@ -11,6 +11,7 @@ use lib.Ieee.{nanBits}
 use lib.ListN.{length}
 use Rattle.reg_matrix.specs.Lists.{foldl, bit, isNil}
 use Rattle.reg_matrix.specs.Refusals.{shortBuffer, badSlot, atBoundary}
+use Rattle.reg_matrix.specs.Table.{isUse}
 use Rattle.reg_matrix.specs.Assign.{heldBy}
 use Rattle.reg_matrix.specs.Layout.{useValue}
 use Rattle.reg_matrix.specs.declared.ValueSegment.{ValueSegment}
@@ -119,10 +120,11 @@ got-fixedRange :
     → (T (not bad) → b < 2 ^ 32)
     → useValue r < 2 ^ 16
     → ((v : ℕ) → T (heldBy v r) → ⊥)
+    → (T (isUse r) → b ≡ a + 2)
     → Left s
     → Got (NextEntry before) (fixedRange (lastEnd u before) u a b r bad s)
 unfolding fixedRange
-got-fixedRange before u a b r bad ha hb hr hn c =
+got-fixedRange before u a b r bad ha hb hr hn two c =
     got-then (got-refuse 5 (leb b a) c) λ _ s p c.
     got-then (got-refuse 6 (badSlot a || bad) c) λ _ s q c.
     got-then (got-refuse 7 (ltb a (lastEnd u before)) c) λ _ s t c.
@@ -131,7 +133,7 @@ got-fixedRange before u a b r bad ha hb hr hn c =
       record {
         nonempty = nleb→lt b a p;
         not-held = hn;
-        small = record { unit = nleb→lt 64 u w; from = ha; to = hb (neither (badSlot a) bad q .1); value = hr };
+        small = record { unit = nleb→lt 64 u w; from = ha; to = hb (neither (badSlot a) bad q .1); value = hr; two = two };
       },
       nltb→le a (lastEnd u before) t,
     )
@@ -152,8 +154,8 @@ got-reservation before b =
     got-then (got-refuse 3 (leb 16 (f .map) || Bool·beq (bit 2 (f .map)) (bit 3 (f .map))) b) λ _ s _ b.
     got-cond (bit 2 (f .map)) (fixedRange (lastEnd (f .unit) before) (f .unit) (f .from) (f .to) FixedDef (not (atBoundary (f .to))))
     (fixedRange (lastEnd (f .unit) before) (f .unit) (f .from) (f .from + 2) (FixedUse (f .value)) (not (atBoundary (f .from)))) s
-    (got-fixedRange before (f .unit) (f .from) (f .to) FixedDef (not (atBoundary (f .to))) (h .from) (λ t. h .to) (omega arith) (λ v t. t) b)
-    (got-fixedRange before (f .unit) (f .from) (f .from + 2) (FixedUse (f .value)) (not (atBoundary (f .from))) (h .from) (use-end (f .from) (h .from)) (h .value) (λ v t. t) b)
+    (got-fixedRange before (f .unit) (f .from) (f .to) FixedDef (not (atBoundary (f .to))) (h .from) (λ t. h .to) (omega arith) (λ v t. t) (λ t. absurd t) b)
+    (got-fixedRange before (f .unit) (f .from) (f .from + 2) (FixedUse (f .value)) (not (atBoundary (f .from))) (h .from) (use-end (f .from) (h .from)) (h .value) (λ v t. t) (λ t. refl) b)
 
 -- the first ends before the second starts, on the same unit
 abbrev pub Follows : Entry → Entry → Type 0

@@ -1,13 +1,13 @@
 -- The premises of demand 3 and every bound that the stage relies on, as loading tested them (00, demand 3; document 01, "Limits" and refusals
 -- 5 to 12). Assumes nothing.
-use Prim.Native.Nat.{ℕ, _<_, _≤_, _^_}
+use Prim.Native.Nat.{ℕ, _+_, _<_, _≤_, _^_}
 use mathlib.Core.Path.{_≡_}
 use mathlib.Core.List.{List}
-use mathlib.Core.Bool.{Bool, false}
+use mathlib.Core.Bool.{false}
 use lib.Dec.{T}
 use lib.Ieee.{Float, nan, inf, fin}
 use lib.ListN.{length}
-use Rattle.reg_matrix.specs.Table.{unitsOf}
+use Rattle.reg_matrix.specs.Table.{unitsOf, isUse}
 use Rattle.reg_matrix.specs.Layout.{useValue}
 use Rattle.reg_matrix.specs.declared.ValueSegment.{ValueSegment}
 use Rattle.reg_matrix.specs.declared.Entry.{Entry}
@@ -40,6 +40,8 @@ pub record SmallEntry (e : Entry) : Type 0 where
   pub from : e .from < 2 ^ 32
   pub to : e .to < 2 ^ 32
   pub value : useValue (e .reservation) < 2 ^ 16
+  -- a fixed use ends at from + 2
+  pub two : T (isUse (e .reservation)) → e .to ≡ e .from + 2
 
 pub record SmallSegment (s : ValueSegment) : Type 0 where
   pub from : s .from < 2 ^ 32
