@@ -6,3 +6,8 @@ pub mod Weights
 pub mod Fields
 pub mod Loads
 pub mod Hex
+pub mod Answers
+pub mod Reading
+pub mod Stores
+pub mod WeightBits
+pub mod Tables

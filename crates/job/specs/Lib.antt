@@ -2,3 +2,4 @@ pub mod Model
 pub mod Parser
 pub mod Load
 pub mod Layout
+pub mod Read

@@ -1,5 +1,11 @@
 // Jobs: from bytes to what a job holds, or to the number of one refusal. These are the types that the definitions speak of.
 
+mod fixed;
+mod lent;
+mod read;
+mod regs;
+mod virt;
+
 // A register that a virtual register would like, with the cost of not getting it.
 pub struct Hint {
     pub reg: u8,
