@@ -11,3 +11,5 @@ pub mod Reading
 pub mod Stores
 pub mod WeightBits
 pub mod Tables
+pub mod Places
+pub mod Layouts

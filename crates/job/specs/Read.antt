@@ -4,6 +4,7 @@ use Prim.Native.Nat.{ℕ, _+_, _≤_, _<_, _^_}
 use mathlib.Core.Path.{_≡_}
 use mathlib.Core.List.{List, [], map}
 use mathlib.Core.Bool.{Bool}
+use mathlib.Core.Option.{Option, none, some}
 use lib.Ieee.{Float}
 use lib.Seq.{sets}
 use lib.ListN.{drop, length, getD, set}
@@ -37,9 +38,17 @@ use Rattle.job.specs.declared.virt.VirtRead.{VirtRead}
 use Rattle.job.specs.declared.virt.VirtRead.the-variants.{Is as IsVirt, Refused as NoVirt}
 use Rattle.job.specs.declared.virt.VirtsRead.{VirtsRead}
 use Rattle.job.specs.declared.virt.VirtsRead.the-variants.{Is as IsVirts, Refused as NoVirts}
+use Rattle.job.specs.declared.virt.VirtTable.{VirtTable}
+use Rattle.job.specs.declared.virt.VirtTable.the-variants.{Is as IsTable, Refused as NoTable}
+use Rattle.job.specs.declared.regs.ClassesRead.{ClassesRead}
+use Rattle.job.specs.declared.regs.ClassesRead.the-variants.{Is as IsClasses, Refused as NoClasses}
+use Rattle.job.specs.declared.Probe.{Probe}
+use Rattle.job.specs.declared.Probe.the-variants.{Over, NoProbe}
+use Rattle.job.specs.declared.whole.ProbeRead.{ProbeRead}
+use Rattle.job.specs.declared.whole.ProbeRead.the-variants.{Is as IsProbe, Refused as NoRange}
 use Rattle.job.specs.Model.{VirtReg}
-use Rattle.job.specs.Parser.{Parser, Parsed, refused, parsed, _>>=_, little, ifBit}
-use Rattle.job.specs.Load.{fixedFields, fixedTests}
+use Rattle.job.specs.Parser.{Parser, Parsed, refused, parsed, _>>=_, done, little, ifBit, each}
+use Rattle.job.specs.Load.{countOf, range, fixedFields, fixedTests}
 use Rattle.job.specs.Layout.{startsFrom}
 
 -- ---- numbers
@@ -86,6 +95,10 @@ module _ {A : Type 0} where
   Counted s p size room (NoNumber n) stored = p ≡ refused n
   Counted s p size room (IsNumber k at) stored = (a : A) × (p ≡ parsed a (drop at s)) × (size a ≡ k) × (k ≤ room) × stored a
 
+  -- a count of n bytes, and as many, where their bit stands
+  abbrev pub tableOf : Bool → ℕ → ℕ → (List A → Parser A) → Parser (List A)
+  tableOf stands n limit p = ifBit stands [] (do k ← countOf n limit; each p k [])
+
 -- the slice b, with a field of each of xs stored from place g on
 pub record Stored {A B : Type 0} (f : A → B) (b : List B) (g : ℕ) (xs : List A) (b′ : List B) : Type 0 where
   pub is : b′ ≡ sets b g (map f xs)
@@ -102,6 +115,11 @@ allMembers = concatMap (λ (c : List ℕ). c)
 pub record ClassesAt (b m b′ m′ : List ℕ) (cs : List (List ℕ)) : Type 0 where
   pub starts : Stored (λ (x : ℕ). x) b 0 (startsFrom length 0 cs) b′
   pub members : Stored (λ (x : ℕ). x) m 0 (allMembers cs) m′
+
+abbrev pub ClassesOut : List ℕ → Parsed (List (List ℕ)) → ClassesRead → (List (List ℕ) → Type 0) → Type 0
+ClassesOut s p (NoClasses n) stored = p ≡ refused n
+ClassesOut s p (IsClasses n k at) stored =
+    (cs : List (List ℕ)) × (p ≡ parsed cs (drop at s)) × (length cs ≡ n) × (length (allMembers cs) ≡ k) × (k ≤ 16320) × stored cs
 
 -- ---- fixed reservations
 
@@ -221,3 +239,21 @@ abbrev pub VirtsOut : List ℕ → Parsed (List VirtReg) → VirtsRead → (List
 VirtsOut s p (NoVirts n) stored hs ss = p ≡ refused n
 VirtsOut s p (IsVirts h g at) stored hs ss =
     (vs : List VirtReg) × (p ≡ parsed vs (drop at s)) × (length (hintsOfAll vs) ≡ h) × (length (segmentsOfAll vs) ≡ g) × (h ≤ 1024) × (g ≤ 512) × stored vs × hs (hintsOfAll vs) × ss (segmentsOfAll vs)
+
+abbrev pub TableOut : List ℕ → Parsed (List VirtReg) → VirtTable → (List VirtReg → Type 0) → (List Hint → Type 0) → (List ValueSegment → Type 0) → Type 0
+TableOut s p (NoTable n) stored hs ss = p ≡ refused n
+TableOut s p (IsTable n h g at) stored hs ss =
+    (vs : List VirtReg) × (p ≡ parsed vs (drop at s)) × (length vs ≡ n) × (length (hintsOfAll vs) ≡ h) × (length (segmentsOfAll vs) ≡ g) × (h ≤ 1024) × (g ≤ 512) × stored vs × hs (hintsOfAll vs) × ss (segmentsOfAll vs)
+
+-- ---- the probe range
+
+abbrev pub probeField : Bool → Parser (Option ValueSegment)
+probeField stands = ifBit stands none (do r ← range 0 (done 0); done (some r))
+
+abbrev pub rangeOf : Probe → Option ValueSegment
+rangeOf NoProbe = none
+rangeOf (Over a b) = some (record { from = a; to = b; value = 0 })
+
+abbrev pub probeView : List ℕ → ProbeRead → Parsed (Option ValueSegment)
+probeView s (IsProbe p at) = parsed (rangeOf p) (drop at s)
+probeView s (NoRange n) = refused n

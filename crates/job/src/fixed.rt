@@ -1,18 +1,20 @@
 // The fixed reservations of a job.
 ghost use mathlib.Core.Path.{_≡_};
 ghost use mathlib.Core.List.{[]};
-ghost use lib.ListN.{drop};
+ghost use lib.ListN.{length, drop};
 ghost use Rattle.job.specs.Load.{fixedFields, fixedRange, fixedTests, reservation as reservationOf};
 ghost use Rattle.job.specs.Parser.{each};
-ghost use Rattle.job.specs.Read.{fixedView, EntryTested, EntryAt, useNumber, Outcome, FixedAt};
+ghost use Rattle.job.specs.Read.{fixedView, EntryTested, EntryAt, useNumber, Outcome, Counted, FixedAt, tableOf};
 use crate::FixedFields;
 use crate::lent::at32;
 use crate::lent::put8;
 use crate::lent::put32;
 use crate::read::Next;
+use crate::read::Number;
 use crate::read::Read;
 use crate::read::byte;
 use crate::read::byte_if;
+use crate::read::count16;
 use crate::read::half_if;
 use crate::read::word_if;
 use reg_matrix::Entry;
@@ -181,4 +183,25 @@ pub fn reservations(
         i += 1;
     }
     Next::At(at)
+}
+
+// The fixed reservations where their bit stands: how many, and the position after them.
+pub fn fixed_table(
+    s: &[u8],
+    at: usize,
+    stands: bool,
+    units: &mut [u8],
+    froms: &mut [u32],
+    tos: &mut [u32],
+    uses: &mut [u32],
+) -> Number
+    ensures { λ r. ⌜ Counted (now (s .entry)) (tableOf stands 2 512 reservationOf (drop at (now (s .entry)))) length 512 r (FixedAt (now (units .entry)) (now (froms .entry)) (now (tos .entry)) (now (uses .entry)) (now (units .exit)) (now (froms .exit)) (now (tos .exit)) (now (uses .exit))) ⌝ }
+{
+    match count16(s, at, stands, 512) {
+        Number::Refused(n) => Number::Refused(n),
+        Number::Is(k, at1) => match reservations(s, at1, k as u16, units, froms, tos, uses) {
+            Next::Refused(n) => Number::Refused(n),
+            Next::At(next) => Number::Is(k, next),
+        },
+    }
 }

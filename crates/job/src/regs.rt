@@ -5,7 +5,7 @@ ghost use Prim.Native.Nat.{_+_, _≤_};
 ghost use lib.ListN.{length, drop};
 ghost use Rattle.job.specs.Load.{register as registerOf, known as knownOf, class as classOf};
 ghost use Rattle.job.specs.Parser.{each};
-ghost use Rattle.job.specs.Read.{Num, Outcome, Counted, Stored, ClassesAt, allMembers};
+ghost use Rattle.job.specs.Read.{Num, Outcome, Counted, Stored, ClassesAt, ClassesOut, allMembers, tableOf};
 use crate::lent::put8;
 use crate::lent::put16;
 use crate::lent::put64;
@@ -119,4 +119,43 @@ pub fn classes(
         i += 1;
     }
     Number::Is(g, at)
+}
+
+// How many classes there are, how many registers they have, and the position after them; or a refusal's number.
+pub enum ClassesRead {
+    Is(u8, u64, usize),
+    Refused(u8),
+}
+
+// The registers where their bit stands: how many, and the position after them.
+pub fn reg_table(s: &[u8], at: usize, stands: bool, maps: &mut [u64]) -> Number
+    ensures { λ r. ⌜ Counted (now (s .entry)) (tableOf stands 1 64 (λ before. registerOf) (drop at (now (s .entry)))) length 64 r (λ ms. Stored (λ x. x) (now (maps .entry)) 0 ms (now (maps .exit))) ⌝ }
+{
+    match count8(s, at, stands, 64) {
+        Number::Refused(n) => Number::Refused(n),
+        Number::Is(k, at1) => match registers(s, at1, k as u8, maps) {
+            Next::Refused(n) => Number::Refused(n),
+            Next::At(next) => Number::Is(k, next),
+        },
+    }
+}
+
+// The classes where their bit stands.
+pub fn class_table(
+    s: &[u8],
+    at: usize,
+    stands: bool,
+    regs: u8,
+    starts: &mut [u16],
+    list: &mut [u8],
+) -> ClassesRead
+    ensures { λ r. ⌜ ClassesOut (now (s .entry)) (tableOf stands 1 16 (λ before. classOf regs) (drop at (now (s .entry)))) r (ClassesAt (now (starts .entry)) (now (list .entry)) (now (starts .exit)) (now (list .exit))) ⌝ }
+{
+    match count8(s, at, stands, 16) {
+        Number::Refused(n) => ClassesRead::Refused(n),
+        Number::Is(k, at1) => match classes(s, at1, k as u8, regs, starts, list) {
+            Number::Refused(n) => ClassesRead::Refused(n),
+            Number::Is(g, next) => ClassesRead::Is(k as u8, g, next),
+        },
+    }
 }

@@ -7,7 +7,7 @@ ghost use lib.Dec.{eqb};
 ghost use lib.ListN.{length, drop, set};
 ghost use Rattle.job.specs.Load.{hint as hintOf, range as rangeOf, segment as segmentOf, hintCount, segmentCount, hints as hintsOf, segments as segmentsOf, spillBits, known, virtRegFields, virtRegAt, virtRegAfter};
 ghost use Rattle.job.specs.Parser.{each, ifBit, little};
-ghost use Rattle.job.specs.Read.{Num, hintView, segmentView, fieldsView, Outcome, Counted, HintsAt, SegmentsAt, VirtOut, VirtsOut, VirtsAt, FieldsAt};
+ghost use Rattle.job.specs.Read.{Num, hintView, segmentView, fieldsView, Outcome, Counted, HintsAt, SegmentsAt, VirtOut, VirtsOut, VirtsAt, FieldsAt, TableOut, tableOf};
 use crate::Hint;
 use crate::VirtRegFields;
 use crate::lent::put_float;
@@ -18,6 +18,7 @@ use crate::read::Next;
 use crate::read::Number;
 use crate::read::Read;
 use crate::read::byte;
+use crate::read::count16;
 use crate::read::half;
 use crate::read::known8;
 use crate::read::known16;
@@ -461,4 +462,57 @@ pub fn virt_regs(
         i += 1;
     }
     VirtsRead::Is(h, g, at)
+}
+
+// How many virtual registers, hints and segments there are, and the position after them; or a refusal's number.
+pub enum VirtTable {
+    Is(u16, u64, u64, usize),
+    Refused(u8),
+}
+
+// The virtual registers where their bit stands.
+pub fn virt_table(
+    s: &[u8],
+    at: usize,
+    stands: bool,
+    regs: u8,
+    classes: u8,
+    kinds: &mut [u8],
+    groups: &mut [u16],
+    spills: &mut [f32],
+    sizes: &mut [u32],
+    hfirsts: &mut [u16],
+    owners: &mut [u8],
+    weights: &mut [f32],
+    gfirsts: &mut [u16],
+    froms: &mut [u32],
+    tos: &mut [u32],
+    values: &mut [u16],
+) -> VirtTable
+    ensures { λ r. ⌜ TableOut (now (s .entry)) (tableOf stands 2 512 (virtRegAfter regs classes) (drop at (now (s .entry)))) r (VirtsAt (now (kinds .entry)) (now (groups .entry)) (now (spills .entry)) (now (sizes .entry)) (now (hfirsts .entry)) (now (gfirsts .entry)) (now (kinds .exit)) (now (groups .exit)) (now (spills .exit)) (now (sizes .exit)) (now (hfirsts .exit)) (now (gfirsts .exit))) (HintsAt 0 (now (owners .entry)) (now (weights .entry)) (now (owners .exit)) (now (weights .exit))) (SegmentsAt 0 (now (froms .entry)) (now (tos .entry)) (now (values .entry)) (now (froms .exit)) (now (tos .exit)) (now (values .exit))) ⌝ }
+{
+    match count16(s, at, stands, 512) {
+        Number::Refused(n) => VirtTable::Refused(n),
+        Number::Is(k, at1) => match virt_regs(
+            s,
+            at1,
+            k as u16,
+            regs,
+            classes,
+            kinds,
+            groups,
+            spills,
+            sizes,
+            hfirsts,
+            owners,
+            weights,
+            gfirsts,
+            froms,
+            tos,
+            values,
+        ) {
+            VirtsRead::Refused(n) => VirtTable::Refused(n),
+            VirtsRead::Is(h, g, next) => VirtTable::Is(k as u16, h, g, next),
+        },
+    }
 }
