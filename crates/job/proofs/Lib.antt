@@ -13,3 +13,4 @@ pub mod WeightBits
 pub mod Tables
 pub mod Places
 pub mod Layouts
+pub mod WholeTests

@@ -57,3 +57,9 @@ module _ {A : Type 0} (d : A) where
         any-at (p x) (q i) xs (suc i) (λ m l. both q (omega arith) (omega arith) ∙ h 0 (suc m) (omega arith) (omega arith)),
         pair-at p q xs (suc i) (λ k m a b. both q (omega arith) (omega arith) ∙ h (suc k) (suc m) (omega arith) (omega arith)),
       )
+
+  pub anys-at : (p : A → Bool) (q : ℕ → Bool) (xs : List A) → ((k : ℕ) → k < length xs → q k ≡ p (getD xs k d)) → any q (count 0 (length xs)) ≡ any p xs
+  anys-at p q xs h = any-at p q xs 0 (λ k l. ap q (omega arith) ∙ h k l)
+
+  pub pairs-at : (p : A → A → Bool) (q : ℕ → ℕ → Bool) (xs : List A) → ((k m : ℕ) → k < length xs → m < length xs → q k m ≡ p (getD xs k d) (getD xs m d)) → anyPair q (count 0 (length xs)) ≡ anyPair p xs
+  pairs-at p q xs h = pair-at p q xs 0 (λ k m a b. both q (omega arith) (omega arith) ∙ h k m a b)
