@@ -4,7 +4,6 @@ use native.Mathlib.Omega.{arith}
 use mathlib.Core.Path.{_≡_, refl, ap, sym, _∙_}
 use mathlib.Core.List.{List, [], _∷_, _++_, map, append-assoc, append-nil}
 use mathlib.Core.Bool.{Bool, true, false, cond, Bool·beq}
-use mathlib.Core.Option.{Option}
 use lib.Dec.{leb, eqb}
 use lib.ListN.{length, getD, set, replicate, length-set, length-append, List·getD-eq-default}
 use lib.Seq.{sets, getD-set-same, getD-set-other, set-set}
@@ -17,10 +16,11 @@ use Rattle.job.specs.declared.FixedFields.{FixedFields}
 use Rattle.job.specs.declared.VirtRegFields.{VirtRegFields}
 use Rattle.job.specs.Model.{VirtReg}
 use Rattle.job.specs.Parser.{Parser, Parsed, refused, parsed, ifBit, andThen, each, little}
-use Rattle.job.specs.Load.{countOf, register, class, virtRegAfter, jobFields, pastOf, lastEnd, fixedFields, fixedTests, reservation, hintsIn, segmentsIn, virtRegFields, hints, segments, virtRegAt}
+use Rattle.job.specs.Load.{countOf, register, class, jobFields, pastOf, lastEnd, fixedFields, fixedTests, reservation, hintsIn, segmentsIn, virtRegFields, hints, segments, virtRegAt}
 use Rattle.job.specs.Layout.{startsFrom}
-use Rattle.job.specs.Read.{Stored, reservationAfter, tableOf, probeField, hintsOfAll, segmentsOfAll}
+use Rattle.job.specs.Read.{Stored, reservationAfter, tableOf, hintsOfAll, segmentsOfAll}
 use Rattle.reg_matrix.specs.Lists.{bit}
+use Rattle.job.specs.Whole.{restOf}
 use Rattle.job.proofs.Lists.{foldl-more, sum-length}
 
 -- ---- one more at the end
@@ -158,18 +158,15 @@ segmentsIn-length vs = sum-length (λ (v : VirtReg). v .segments) 0 vs ∙ omega
 
 -- ---- the job
 
-module _ (l : List ℕ) {l₁ l₂ l₃ l₄ l₅ l₆ l₇ : List ℕ} {m r c b : ℕ} {rs : List ℕ} {cs : List (List ℕ)} {es : List Entry} {vs : List VirtReg} {p : Option ValueSegment} where
-  pub job-is :
+module _ (l : List ℕ) {l₁ l₂ l₃ l₄ : List ℕ} {m r : ℕ} {rs : List ℕ} {cs : List (List ℕ)} {es : List Entry} where
+  -- what is left after the first tables
+  pub first-is :
       little 1 l ≡ parsed m l₁
       → leb 64 m ≡ false
       → tableOf (bit 0 m) 1 64 (λ before. register) l₁ ≡ parsed rs l₂
       → length rs ≡ r
       → tableOf (bit 1 m) 1 16 (λ before. class r) l₂ ≡ parsed cs l₃
-      → length cs ≡ c
       → tableOf (bit 2 m) 2 512 reservation l₃ ≡ parsed es l₄
-      → tableOf (bit 3 m) 2 512 (virtRegAfter r c) l₄ ≡ parsed vs l₅
-      → probeField (bit 4 m) l₅ ≡ parsed p l₆
-      → ifBit (bit 5 m) 100_000 (little 4) l₆ ≡ parsed b l₇
-      → jobFields l ≡ parsed (record { regs = rs; classes = cs; fixed = es; virtRegs = vs; probe = p; budget = b }) l₇
-  unfolding jobFields
-  job-is e t e₁ n e₂ k e₃ e₄ e₅ e₆ = rw (e, t, e₁, n, e₂, k, e₃, e₄, e₅, e₆)
+      → jobFields l ≡ restOf m rs cs es l₄
+  unfolding jobFields restOf
+  first-is e t e₁ n e₂ e₃ = rw (e, t, e₁, n, e₂, e₃)

@@ -2,16 +2,24 @@
 use Prim.Native.Nat.{ℕ}
 use mathlib.Core.Path.{_≡_}
 use mathlib.Core.List.{List}
+use mathlib.Core.Option.{Option}
 use lib.Ieee.{Float}
 use lib.ListN.{drop, length}
 use Rattle.job.specs.declared.JobHeader.{JobHeader}
 use Rattle.job.specs.declared.whole.TableSizes.{TableSizes}
 use Rattle.job.specs.declared.whole.JobRead.{JobRead}
 use Rattle.job.specs.declared.whole.JobRead.the-variants.{Is, Refused}
+use Rattle.job.specs.declared.whole.FirstTables.{FirstTables}
+use Rattle.job.specs.declared.whole.FirstRead.{FirstRead}
+use Rattle.job.specs.declared.whole.FirstRead.the-variants.{Is as IsFirst, Refused as NoFirst}
+use Rattle.reg_matrix.specs.Lists.{bit}
+use Rattle.reg_matrix.specs.declared.Entry.{Entry}
+use Rattle.reg_matrix.specs.declared.ValueSegment.{ValueSegment}
 use Rattle.job.specs.Model.{Job}
-use Rattle.job.specs.Parser.{Parsed, refused, parsed}
+use Rattle.job.specs.Parser.{Parser, Parsed, refused, parsed, _>>=_, done, ifBit, little}
+use Rattle.job.specs.Load.{virtRegAfter}
 use Rattle.job.specs.Layout.{headerOf}
-use Rattle.job.specs.Read.{Stored, ClassesAt, FixedAt, VirtsAt, HintsAt, SegmentsAt, allMembers, hintsOfAll, segmentsOfAll}
+use Rattle.job.specs.Read.{tableOf, probeField, rangeOf, Stored, ClassesAt, FixedAt, VirtsAt, HintsAt, SegmentsAt, allMembers, hintsOfAll, segmentsOfAll}
 
 -- the slices that the fields are stored in
 pub record Slices : Type 0 where
@@ -51,3 +59,40 @@ pub record SizesOf (z : TableSizes) (j : Job) : Type 0 where
 abbrev pub JobOut : List ℕ → Parsed Job → JobRead → (Job → Type 0) → Type 0
 JobOut s p (Refused n) stored = p ≡ refused n
 JobOut s p (Is h z at) stored = (j : Job) × (p ≡ parsed j (drop at s)) × (h ≡ headerOf j) × SizesOf z j × stored j
+
+-- ---- the first tables
+
+-- what is read after the fixed reservations
+unfoldable pub restOf : ℕ → List ℕ → List (List ℕ) → List Entry → Parser Job
+restOf m rs cs es = do
+  vs ← tableOf (bit 3 m) 2 512 (virtRegAfter (length rs) (length cs))
+  p ← probeField (bit 4 m)
+  b ← ifBit (bit 5 m) 100_000 (little 4)
+  done (record { regs = rs; classes = cs; fixed = es; virtRegs = vs; probe = p; budget = b })
+
+pub record FirstSizes (t : FirstTables) (rs : List ℕ) (cs : List (List ℕ)) (es : List Entry) : Type 0 where
+  pub regs : length rs ≡ t .regs
+  pub classes : length cs ≡ t .classes
+  pub classRegs : length (allMembers cs) ≡ t .«class_regs»
+  pub fixed : length es ≡ t .fixed
+
+abbrev pub FirstOut : List ℕ → Parsed Job → FirstRead → (List ℕ → Type 0) → (List (List ℕ) → Type 0) → (List Entry → Type 0) → Type 0
+FirstOut s p (NoFirst n) regs classes fixed = p ≡ refused n
+FirstOut s p (IsFirst t at) regs classes fixed =
+    (rs : List ℕ) × (cs : List (List ℕ)) × (es : List Entry) × (p ≡ restOf (t .map) rs cs es (drop at s)) × FirstSizes t rs cs es × regs rs × classes cs × fixed es
+
+-- ---- the last fields
+
+-- what is read after the virtual registers, where the bits of m stand: the probe range and the budget
+unfoldable pub lastOf : ℕ → Parser (Option ValueSegment × ℕ)
+lastOf m = do
+  p ← probeField (bit 4 m)
+  b ← ifBit (bit 5 m) 100_000 (little 4)
+  done (p, b)
+
+abbrev pub LastOut : List ℕ → ℕ → FirstTables → ℕ → ℕ → ℕ → JobRead → Type 0
+LastOut s at t v h g (Refused n) = lastOf (t .map) (drop at s) ≡ refused n
+LastOut s at t v h g (Is d z next) =
+    (lastOf (t .map) (drop at s) ≡ parsed (rangeOf (d .probe), d .budget) (drop next s))
+    × (d ≡ record { regs = t .regs; classes = t .classes; «virt_regs» = v; probe = d .probe; budget = d .budget })
+    × (z ≡ record { «class_regs» = t .«class_regs»; fixed = t .fixed; hints = h; segments = g })
