@@ -8,11 +8,3 @@ pub mod Loads
 pub mod Hex
 pub mod Opened
 pub mod AllRefusals
-pub mod Answers
-pub mod Reading
-pub mod Stores
-pub mod WeightBits
-pub mod Tables
-pub mod Places
-pub mod Layouts
-pub mod WholeTests

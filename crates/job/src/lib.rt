@@ -1,14 +1,5 @@
 // Jobs: from bytes to what a job holds, or to the number of one refusal. These are the types that the definitions speak of.
 
-pub mod access;
-mod fixed;
-mod lent;
-mod read;
-mod regs;
-mod tests;
-mod virt;
-mod whole;
-
 // A register that a virtual register would like, with the cost of not getting it.
 pub struct Hint {
     pub reg: u8,
