@@ -1,13 +1,9 @@
 use borrow.Author.Needs.{needs}
 use native.Mathlib.Omega.{arith}
-use mathlib.Core.Path.{_≡_, refl, sym, ap, _∙_}
+use mathlib.Core.Path.{_∙_}
 use mathlib.Core.List.{[]}
-use borrow.Author.Tests.{eq-eqb, ne-eqb}
 use Rattle.job.proofs.Answers.{no-num, took-num, num-small}
 use Rattle.job.proofs.Reading.{each-length}
-use Rattle.job.proofs.Stores.{none-stored}
-use Rattle.job.specs.Read.{Counted, Outcome}
-use Rattle.job.specs.Parser.{each}
 use Rattle.job.specs.Load.{segments, segment}
 use Rattle.job.proofs.virt.segment_table.Statement.{statement}
 use Rattle.job.proofs.virt.segment_table.Tie as tie

@@ -1,8 +1,8 @@
 use borrow.Author.Needs.{needs}
 use native.Mathlib.Omega.{arith}
-use mathlib.Core.Path.{_≡_, sym, _∙_}
-use borrow.Author.Tests.{lt-ltb, le-ltb, le-leb, lt-leb, eq-eqb, ne-eqb}
-use Rattle.job.proofs.Answers.{short, took, took-small, or-true}
+use mathlib.Core.Path.{sym}
+use borrow.Author.Tests.{eq-eqb, ne-eqb}
+use Rattle.job.proofs.Answers.{short, took}
 use Rattle.job.specs.Load.{spillBits}
 use Rattle.job.proofs.WeightBits.{spill-bad, spill-good}
 use Rattle.job.proofs.virt.spill_field.Statement.{statement}

@@ -1,5 +1,5 @@
 use borrow.Author.Needs.{needs}
-use mathlib.Core.Path.{_≡_, refl, sym, _∙_}
+use mathlib.Core.Path.{refl}
 use Rattle.job.specs.Whole.{lastOf}
 use Rattle.job.proofs.Answers.{short-field, took-field, field-small}
 use Rattle.job.proofs.whole.last_fields.Statement.{statement}
