@@ -9,13 +9,12 @@ use lib.ListN.{length, drop, getD}
 use lib.Seq.{drop-cons}
 use lib.Count.{ones, onesIn, ones-step}
 use mathlib.Core.Bool.{Bool, true, false, _||_}
-use lib.Dec.{eqb}
 use Rattle.loader.specs.Read.{readView, Little, Field, numView, Num}
 use Rattle.loader.specs.declared.read.Number.{Number}
 use Rattle.loader.specs.declared.read.Number.the-variants.{Is, Refused}
 use Rattle.loader.specs.declared.read.Read.{Read}
 use Rattle.loader.specs.declared.read.Read.the-variants.{Value, Short}
-use Rattle.job.specs.Parser.{Parser, Parsed, refused, parsed, little, andThen, ifBit}
+use Rattle.job.specs.Parser.{Parser, refused, parsed, little, ifBit}
 
 pub little-short : (n : ℕ) (l : List ℕ) → length l < n → little n l ≡ refused 1
 unfolding little

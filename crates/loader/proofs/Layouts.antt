@@ -5,7 +5,7 @@ use native.Mathlib.Omega.{arith}
 use native.Mathlib.Numerals.{add-one}
 use mathlib.Core.Path.{_≡_, ap, _∙_}
 use mathlib.Core.List.{List, [], _∷_, _++_, map}
-use lib.ListN.{length, take, drop, getD, replicate, length-map, length-append, List·getD-append, List·getD-map}
+use lib.ListN.{length, take, getD, replicate, length-map, length-append, List·getD-append, List·getD-map}
 use lib.Ieee.{Float}
 use lib.Seq.{getD-append-add}
 use Rattle.reg_matrix.specs.Lists.{concatMap, padded}

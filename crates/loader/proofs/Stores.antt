@@ -1,9 +1,9 @@
 -- Stores of a list, one by one. Assumes nothing.
 use Prim.Native.Nat.{ℕ, zero, suc, _+_, _-_, _≤_, _<_}
 use native.Mathlib.Omega.{arith}
-use native.Mathlib.Nat.{suc-add, add-suc, add-zero}
+use native.Mathlib.Nat.{add-zero}
 use mathlib.Core.Path.{_≡_, refl, ap, sym, _∙_}
-use mathlib.Core.List.{List, [], _∷_, _++_, map, append-assoc}
+use mathlib.Core.List.{List, [], _∷_, _++_, map}
 use native.Mathlib.Numerals.{add-one}
 use lib.ListN.{length, getD, set, drop, replicate, length-map, length-append, length-replicate}
 use lib.Seq.{sets, length-sets, sets-eq}

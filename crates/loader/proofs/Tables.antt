@@ -5,7 +5,7 @@ use mathlib.Core.Path.{_≡_, refl, ap, sym, _∙_}
 use mathlib.Core.List.{List, [], _∷_, _++_, map, append-assoc, append-nil}
 use mathlib.Core.Bool.{Bool, true, false, cond, Bool·beq}
 use lib.Dec.{leb, eqb}
-use lib.ListN.{length, getD, set, replicate, length-set, length-append, List·getD-eq-default}
+use lib.ListN.{length, getD, set, replicate, length-set, length-append}
 use lib.Seq.{sets, getD-set-same, getD-set-other, set-set}
 use borrow.Author.Tests.{eqb-true, eqb-false}
 use Rattle.reg_matrix.specs.Lists.{foldl, concatMap}

@@ -5,10 +5,10 @@ use native.Mathlib.Numerals.{add-one}
 use native.Mathlib.Omega.{arith}
 use mathlib.Core.Path.{_≡_, refl, ap, sym, subst, _∙_}
 use mathlib.Core.List.{List, [], _∷_, _++_, map}
-use mathlib.Core.Bool.{Bool, true, false, not, _||_, _&&_}
-use lib.Dec.{T, ltb, eqb, eqb→eq}
+use mathlib.Core.Bool.{Bool, true, false, _||_}
+use lib.Dec.{T, eqb, eqb→eq}
 use lib.ListN.{length, getD, take, drop, length-map, List·getD-append, List·getD-map}
-use lib.Seq.{sets, sets-eq}
+use lib.Seq.{sets-eq}
 use borrow.Author.Tests.{eq-eqb, ne-eqb, eqb-true, eqb-false}
 use Rattle.reg_matrix.specs.Lists.{any, anyPair, count, concatMap, bit, same}
 use Rattle.reg_matrix.specs.Table.{unitsOf}
@@ -19,7 +19,7 @@ use Rattle.reg_matrix.specs.declared.Entry.{Entry}
 use Rattle.reg_matrix.specs.declared.Reservation.{Reservation}
 use Rattle.reg_matrix.specs.declared.Reservation.the-variants.{Held, FixedUse, FixedDef}
 use Rattle.job.specs.Model.{VirtReg, noVirtReg, Job}
-use Rattle.job.specs.Load.{twin, mixedSet, cutUse, cuts, useOfValue, strictlyInside}
+use Rattle.job.specs.Load.{twin, mixedSet, cutUse, cuts, useOfValue}
 use Rattle.loader.specs.Read.{Stored, ClassesAt, allMembers, FixedAt, SegmentsAt, useNumber, segmentsOfAll}
 use Rattle.loader.specs.Tests.{equalAt, memberTwice, classesDiffer, crosses, crossesAt}
 use Rattle.loader.proofs.Stores.{getD-any}

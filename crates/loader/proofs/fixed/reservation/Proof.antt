@@ -1,7 +1,7 @@
 use borrow.Author.Needs.{needs}
 use native.Mathlib.Omega.{arith}
 use mathlib.Core.Path.{sym}
-use Rattle.loader.specs.Read.{fixedView, testUnit, reservationAfter}
+use Rattle.loader.specs.Read.{reservationAfter}
 use Rattle.loader.proofs.fixed.reservation.Statement.{statement}
 use Rattle.loader.proofs.fixed.reservation.Tie as tie
 

@@ -2,12 +2,12 @@
 use borrow.Author.Needs.{needs}
 use Prim.Native.Nat.{_+_, _-_}
 use native.Mathlib.Omega.{arith}
-use mathlib.Core.Path.{_≡_, ap, sym, _∙_}
+use mathlib.Core.Path.{_≡_, sym, _∙_}
 use mathlib.Core.List.{List, [], _∷_, _++_}
 use lib.ListN.{length}
 use Rattle.reg_matrix.specs.declared.Entry.{Entry}
-use Rattle.job.specs.Load.{reservation, fixedFields}
-use Rattle.loader.specs.Read.{FixedAt, entryUnit}
+use Rattle.job.specs.Load.{reservation}
+use Rattle.loader.specs.Read.{FixedAt}
 use Rattle.loader.proofs.Reading.{Reading, begin, more, stops, ends as finish}
 use Rattle.loader.proofs.Stores.{none-stored, more-stored, stored-length}
 use Rattle.loader.proofs.Tables.{Ends, ends-none, ends-more, after-ends}

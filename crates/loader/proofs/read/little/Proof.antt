@@ -1,11 +1,11 @@
 -- The loop's invariant: the bytes from `at + i` on are read, and give v.
-use Prim.Native.Nat.{ℕ, _+_, _-_, _≤_, _<_, _^_}
+use Prim.Native.Nat.{_+_, _-_, _≤_, _<_, _^_}
 use borrow.Author.Needs.{needs}
 use native.Mathlib.Omega.{arith}
-use mathlib.Core.Path.{_≡_, refl, ap, sym, _∙_}
-use lib.ListN.{length, drop, length-drop, drop-of-length-le}
+use mathlib.Core.Path.{_≡_, sym}
+use lib.ListN.{length, drop, length-drop}
 use Rattle.job.specs.Parser.{parsed, little}
-use Rattle.loader.proofs.Answers.{little-short, little-more, pow-fits, pow-pos, turn-small, turn-reads}
+use Rattle.loader.proofs.Answers.{little-short, pow-fits, pow-pos, turn-small, turn-reads}
 use Rattle.loader.proofs.read.little.Statement.{statement}
 use Rattle.loader.proofs.read.little.Tie as tie
 

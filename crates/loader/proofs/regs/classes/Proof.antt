@@ -2,9 +2,9 @@
 use borrow.Author.Needs.{needs}
 use Prim.Native.Nat.{ℕ, _+_, _*_, _-_, _≤_}
 use native.Mathlib.Omega.{arith}
-use mathlib.Core.Path.{_≡_, refl, ap, sym, _∙_}
+use mathlib.Core.Path.{_≡_, refl, _∙_}
 use mathlib.Core.List.{List, [], _∷_, _++_}
-use lib.ListN.{length, length-set}
+use lib.ListN.{length}
 use Rattle.reg_matrix.specs.Lists.{concatMap}
 use Rattle.job.specs.Load.{class}
 use Rattle.job.specs.Layout.{startsFrom}

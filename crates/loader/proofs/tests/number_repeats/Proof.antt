@@ -2,7 +2,6 @@
 use borrow.Author.Needs.{needs}
 use Prim.Native.Nat.{_-_}
 use mathlib.Core.Path.{_≡_, refl, sym, _∙_}
-use native.Mathlib.Omega.{arith}
 use Rattle.reg_matrix.specs.Lists.{anyPair, count}
 use Rattle.loader.specs.Tests.{equalAt}
 use Rattle.loader.proofs.Places.{pair-more, pair-end}

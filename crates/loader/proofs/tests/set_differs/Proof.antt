@@ -1,7 +1,7 @@
 -- The invariant: the places from here on are the rest of the whole.
 use borrow.Author.Needs.{needs}
 use Prim.Native.Nat.{_-_}
-use mathlib.Core.Path.{_≡_, refl, sym, _∙_}
+use mathlib.Core.Path.{_≡_, sym, _∙_}
 use native.Mathlib.Omega.{arith}
 use Rattle.reg_matrix.specs.Lists.{anyPair, count}
 use Rattle.loader.specs.Tests.{classesDiffer}

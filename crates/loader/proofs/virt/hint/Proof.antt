@@ -1,9 +1,8 @@
 use borrow.Author.Needs.{needs}
 use native.Mathlib.Omega.{arith}
-use mathlib.Core.Path.{_≡_, sym, _∙_}
-use borrow.Author.Tests.{lt-ltb, le-ltb, le-leb, lt-leb, eq-eqb, ne-eqb}
-use Rattle.loader.proofs.Answers.{short, took, took-small, or-true}
-use lib.Dec.{T}
+use mathlib.Core.Path.{sym}
+use borrow.Author.Tests.{le-leb, lt-leb}
+use Rattle.loader.proofs.Answers.{short, took, took-small}
 use Rattle.job.specs.Load.{hint}
 use Rattle.loader.proofs.WeightBits.{hint-bad, hint-good, not-nan}
 use Rattle.loader.proofs.virt.hint.Statement.{statement}

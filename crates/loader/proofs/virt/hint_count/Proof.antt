@@ -1,8 +1,8 @@
 use borrow.Author.Needs.{needs}
 use native.Mathlib.Omega.{arith}
-use mathlib.Core.Path.{_≡_, sym, _∙_}
-use borrow.Author.Tests.{lt-ltb, le-ltb, le-leb, lt-leb, eq-eqb, ne-eqb}
-use Rattle.loader.proofs.Answers.{short, took, took-small, or-true}
+use mathlib.Core.Path.{sym}
+use borrow.Author.Tests.{lt-ltb, le-ltb, eq-eqb, ne-eqb}
+use Rattle.loader.proofs.Answers.{short, took}
 use Rattle.job.specs.Load.{hintCount}
 use Rattle.loader.proofs.virt.hint_count.Statement.{statement}
 use Rattle.loader.proofs.virt.hint_count.Tie as tie

@@ -1,5 +1,4 @@
-use borrow.Author.Needs.{needs}
-use mathlib.Core.Path.{_≡_, sym}
+use mathlib.Core.Path.{sym}
 use borrow.Author.Tests.{eq-eqb, ne-eqb}
 use Rattle.loader.proofs.virt.no_class.Statement.{statement}
 use Rattle.loader.proofs.virt.no_class.Tie as tie

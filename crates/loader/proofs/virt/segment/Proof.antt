@@ -1,9 +1,7 @@
 use borrow.Author.Needs.{needs}
-use native.Mathlib.Omega.{arith}
 use borrow.Author.Tests.{lt-ltb, le-ltb, le-leb, lt-leb, eq-eqb, ne-eqb}
 use mathlib.Core.Path.{sym}
 use Rattle.loader.proofs.Answers.{short, took, took-small}
-use Rattle.job.specs.Parser.{little, parsed, refused}
 use Rattle.job.specs.Load.{range}
 use Rattle.loader.proofs.virt.segment.Statement.{statement}
 use Rattle.loader.proofs.virt.segment.Tie as tie

@@ -1,16 +1,15 @@
 -- The invariant: the segments read so far are stored, and the rest of them from here are the rest of the whole.
-use Prim.Native.Nat.{ℕ, _+_, _-_, _≤_, _<_}
+use Prim.Native.Nat.{_+_, _-_}
 use borrow.Author.Needs.{needs}
 use native.Mathlib.Omega.{arith}
-use mathlib.Core.Path.{_≡_, refl, ap, sym, _∙_}
+use mathlib.Core.Path.{_≡_, refl}
 use mathlib.Core.List.{List, [], _∷_, _++_}
-use lib.ListN.{length, drop}
+use lib.ListN.{length}
 use Rattle.reg_matrix.specs.Lists.{foldl}
 use Rattle.reg_matrix.specs.declared.ValueSegment.{ValueSegment}
 use Rattle.loader.proofs.Tables.{pastOf-more}
-use Rattle.job.specs.Parser.{parsed, refused, each}
 use Rattle.job.specs.Load.{segment, pastOf}
-use Rattle.loader.specs.Read.{SegmentsAt, segmentView}
+use Rattle.loader.specs.Read.{SegmentsAt}
 use Rattle.loader.proofs.Reading.{Reading, begin, more, stops, ends}
 use Rattle.loader.proofs.Stores.{none-stored, more-stored, stored-length}
 use Rattle.loader.proofs.virt.segments.Statement.{statement}

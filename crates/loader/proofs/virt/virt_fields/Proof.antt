@@ -1,8 +1,8 @@
 use borrow.Author.Needs.{needs}
 use native.Mathlib.Omega.{arith}
-use mathlib.Core.Path.{_≡_, sym, _∙_}
-use borrow.Author.Tests.{lt-ltb, le-ltb, le-leb, lt-leb, eq-eqb, ne-eqb}
-use Rattle.loader.proofs.Answers.{short, took, took-small, or-true, no-num, took-num, num-small, short-field, took-field, field-small}
+use mathlib.Core.Path.{sym}
+use borrow.Author.Tests.{le-leb, lt-leb, eq-eqb, ne-eqb}
+use Rattle.loader.proofs.Answers.{short, took, no-num, took-num, num-small, short-field, took-field, field-small}
 use Rattle.job.specs.Load.{virtRegFields}
 use Rattle.loader.proofs.WeightBits.{not-nan}
 use Rattle.loader.proofs.virt.virt_fields.Statement.{statement}

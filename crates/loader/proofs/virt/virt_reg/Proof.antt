@@ -1,7 +1,7 @@
 use borrow.Author.Needs.{needs}
 use native.Mathlib.Omega.{arith}
-use mathlib.Core.Path.{_≡_, refl, sym, ap, _∙_}
-use Rattle.loader.specs.Read.{VirtOut, Counted, fieldsView}
+use mathlib.Core.Path.{refl, sym, ap, _∙_}
+use Rattle.loader.specs.Read.{fieldsView}
 use Rattle.job.specs.Load.{virtRegAt}
 use Rattle.loader.proofs.Tables.{joined, virt-is}
 use Rattle.loader.proofs.virt.virt_reg.Statement.{statement}

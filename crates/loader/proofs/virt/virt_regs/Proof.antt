@@ -1,17 +1,14 @@
 -- The invariant: the virtual registers read so far are stored, h and g count their hints and segments, and the rest from here is the rest of the
 -- whole.
 use borrow.Author.Needs.{needs}
-use Prim.Native.Nat.{ℕ, _+_, _-_, _≤_}
+use Prim.Native.Nat.{_+_, _-_, _≤_}
 use native.Mathlib.Omega.{arith}
-use mathlib.Core.Path.{_≡_, refl, ap, sym, _∙_}
+use mathlib.Core.Path.{_≡_, refl, _∙_}
 use mathlib.Core.List.{List, [], _∷_, _++_}
 use lib.ListN.{length}
 use Rattle.reg_matrix.specs.Lists.{concatMap}
-use Rattle.reg_matrix.specs.declared.ValueSegment.{ValueSegment}
-use Rattle.job.specs.declared.Hint.{Hint}
 use Rattle.job.specs.Model.{VirtReg}
 use Rattle.job.specs.Load.{virtRegAfter}
-use Rattle.job.specs.Layout.{startsFrom}
 use Rattle.loader.specs.Read.{VirtsAt, HintsAt, SegmentsAt, hintsOfAll, segmentsOfAll, hintStarts, segmentStarts}
 use Rattle.loader.proofs.Reading.{Reading, begin, more, stops, ends}
 use Rattle.loader.proofs.Stores.{none-stored, more-stored, stored-length, stored-append}

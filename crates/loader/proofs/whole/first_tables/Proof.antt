@@ -1,8 +1,6 @@
 use borrow.Author.Needs.{needs}
 use native.Mathlib.Omega.{arith}
-use mathlib.Core.Path.{_≡_, refl, _∙_}
 use borrow.Author.Tests.{le-leb, lt-leb}
-use lib.ListN.{length}
 use Rattle.job.specs.Load.{jobFields}
 use Rattle.loader.proofs.Answers.{short, took, took-small}
 use Rattle.loader.proofs.Tables.{first-is}

@@ -1,5 +1,5 @@
 use borrow.Author.Needs.{needs}
-use mathlib.Core.Path.{_≡_, refl, sym, _∙_}
+use mathlib.Core.Path.{refl}
 use Rattle.loader.specs.Whole.{lastOf}
 use Rattle.loader.proofs.Answers.{short-field, took-field, field-small}
 use Rattle.loader.proofs.whole.last_fields.Statement.{statement}
