@@ -13,9 +13,9 @@ use Rattle.reg_matrix.specs.declared.ValueSegment.{ValueSegment}
 use Rattle.job.specs.declared.Hint.{Hint}
 use Rattle.job.specs.Model.{Job, VirtReg, noVirtReg, zeroWeight, virtReg}
 use Rattle.job.specs.Layout.{jobBuffers, startsFrom}
-use Rattle.loader.specs.Read.{allMembers, hintsOfAll, segmentsOfAll}
-use Rattle.loader.proofs.Stores.{getD-any}
-use Rattle.loader.proofs.Tables.{starts-length}
+use Rattle.reader.specs.Read.{allMembers, hintsOfAll, segmentsOfAll}
+use Rattle.reader.proofs.Stores.{getD-any}
+use Rattle.reader.proofs.Tables.{starts-length}
 
 -- ---- one number each
 

@@ -20,13 +20,13 @@ use Rattle.reg_matrix.specs.declared.Reservation.{Reservation}
 use Rattle.reg_matrix.specs.declared.Reservation.the-variants.{Held, FixedUse, FixedDef}
 use Rattle.job.specs.Model.{VirtReg, noVirtReg, Job}
 use Rattle.job.specs.Load.{twin, mixedSet, cutUse, cuts, useOfValue}
-use Rattle.loader.specs.Read.{Stored, ClassesAt, allMembers, FixedAt, SegmentsAt, useNumber, segmentsOfAll}
+use Rattle.reader.specs.Read.{Stored, ClassesAt, allMembers, FixedAt, SegmentsAt, useNumber, segmentsOfAll}
 use Rattle.loader.specs.Tests.{equalAt, memberTwice, classesDiffer, crosses, crossesAt}
-use Rattle.loader.proofs.Stores.{getD-any}
+use Rattle.reader.proofs.Stores.{getD-any}
 use Rattle.loader.proofs.Places.{anys-at, pairs-at, pair-at}
 use Rattle.job.proofs.Units.{same-self}
 use Rattle.job.proofs.Lists.{getD-in}
-use Rattle.loader.proofs.Tables.{starts-length}
+use Rattle.reader.proofs.Tables.{starts-length}
 use Rattle.loader.proofs.Layouts.{start-is, next-start, item-at, item-below}
 
 -- what stands at a place of a slice with room

@@ -3,11 +3,11 @@ ghost use mathlib.Core.Path.{_≡_};
 ghost use Prim.Native.Nat.{_+_};
 ghost use lib.ListN.{getD};
 ghost use Rattle.job.specs.Model.{zeroWeight};
-use crate::lent::at_float;
-use crate::lent::at8;
-use crate::lent::at16;
-use crate::lent::at32;
-use crate::lent::at64;
+use reader::lent::at_float;
+use reader::lent::at8;
+use reader::lent::at16;
+use reader::lent::at32;
+use reader::lent::at64;
 
 // The places from `from` to the one before `to`.
 pub struct Places {

@@ -7,10 +7,10 @@ ghost use lib.Dec.{eqb, ltb};
 ghost use lib.ListN.{getD};
 ghost use Rattle.reg_matrix.specs.Lists.{any, anyPair, count};
 ghost use Rattle.loader.specs.Tests.{equalAt, memberTwice, classesDiffer, crosses, crossesAt};
-use crate::lent::at8;
-use crate::lent::at16;
-use crate::lent::at32;
-use crate::lent::at64;
+use reader::lent::at8;
+use reader::lent::at16;
+use reader::lent::at32;
+use reader::lent::at64;
 
 // x stands at a place from `from` to the one before `to`.
 fn map_among(maps: &[u64], from: usize, to: usize, x: u64) -> bool

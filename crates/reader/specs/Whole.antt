@@ -1,0 +1,98 @@
+-- What reading all fields of a job promises: the job of Load.antt, its header and sizes, and every table stored. Assumes nothing.
+use Prim.Native.Nat.{ℕ}
+use mathlib.Core.Path.{_≡_}
+use mathlib.Core.List.{List}
+use mathlib.Core.Option.{Option}
+use lib.Ieee.{Float}
+use lib.ListN.{drop, length}
+use Rattle.job.specs.declared.JobHeader.{JobHeader}
+use Rattle.reader.specs.declared.whole.TableSizes.{TableSizes}
+use Rattle.reader.specs.declared.whole.JobRead.{JobRead}
+use Rattle.reader.specs.declared.whole.JobRead.the-variants.{Is, Refused}
+use Rattle.reader.specs.declared.whole.FirstTables.{FirstTables}
+use Rattle.reader.specs.declared.whole.FirstRead.{FirstRead}
+use Rattle.reader.specs.declared.whole.FirstRead.the-variants.{Is as IsFirst, Refused as NoFirst}
+use Rattle.reg_matrix.specs.Lists.{bit}
+use Rattle.reg_matrix.specs.declared.Entry.{Entry}
+use Rattle.reg_matrix.specs.declared.ValueSegment.{ValueSegment}
+use Rattle.job.specs.Model.{Job}
+use Rattle.job.specs.Parser.{Parser, Parsed, refused, parsed, _>>=_, done, ifBit, little}
+use Rattle.job.specs.Load.{virtRegAfter}
+use Rattle.job.specs.Layout.{headerOf}
+use Rattle.reader.specs.Read.{tableOf, probeField, rangeOf, Stored, ClassesAt, FixedAt, VirtsAt, HintsAt, SegmentsAt, allMembers, hintsOfAll, segmentsOfAll}
+
+-- the slices that the fields are stored in
+pub record Slices : Type 0 where
+  pub regs : List ℕ
+  pub classStarts : List ℕ
+  pub classRegs : List ℕ
+  pub units : List ℕ
+  pub starts : List ℕ
+  pub stops : List ℕ
+  pub uses : List ℕ
+  pub classes : List ℕ
+  pub valueSets : List ℕ
+  pub spillWeights : List Float
+  pub sizes : List ℕ
+  pub hintStarts : List ℕ
+  pub hintRegs : List ℕ
+  pub hintWeights : List Float
+  pub segmentStarts : List ℕ
+  pub froms : List ℕ
+  pub tos : List ℕ
+  pub values : List ℕ
+
+pub record JobAt (b b′ : Slices) (j : Job) : Type 0 where
+  pub regs : Stored (λ (x : ℕ). x) (b .regs) 0 (j .regs) (b′ .regs)
+  pub classes : ClassesAt (b .classStarts) (b .classRegs) (b′ .classStarts) (b′ .classRegs) (j .classes)
+  pub fixed : FixedAt (b .units) (b .starts) (b .stops) (b .uses) (b′ .units) (b′ .starts) (b′ .stops) (b′ .uses) (j .fixed)
+  pub virtRegs : VirtsAt (b .classes) (b .valueSets) (b .spillWeights) (b .sizes) (b .hintStarts) (b .segmentStarts) (b′ .classes) (b′ .valueSets) (b′ .spillWeights) (b′ .sizes) (b′ .hintStarts) (b′ .segmentStarts) (j .virtRegs)
+  pub hints : HintsAt 0 (b .hintRegs) (b .hintWeights) (b′ .hintRegs) (b′ .hintWeights) (hintsOfAll (j .virtRegs))
+  pub segments : SegmentsAt 0 (b .froms) (b .tos) (b .values) (b′ .froms) (b′ .tos) (b′ .values) (segmentsOfAll (j .virtRegs))
+
+pub record SizesOf (z : TableSizes) (j : Job) : Type 0 where
+  pub classRegs : length (allMembers (j .classes)) ≡ z .«class_regs»
+  pub fixed : length (j .fixed) ≡ z .fixed
+  pub hints : length (hintsOfAll (j .virtRegs)) ≡ z .hints
+  pub segments : length (segmentsOfAll (j .virtRegs)) ≡ z .segments
+
+abbrev pub JobOut : List ℕ → Parsed Job → JobRead → (Job → Type 0) → Type 0
+JobOut s p (Refused n) stored = p ≡ refused n
+JobOut s p (Is h z at) stored = (j : Job) × (p ≡ parsed j (drop at s)) × (h ≡ headerOf j) × SizesOf z j × stored j
+
+-- ---- the first tables
+
+-- what is read after the fixed reservations
+unfoldable pub restOf : ℕ → List ℕ → List (List ℕ) → List Entry → Parser Job
+restOf m rs cs es = do
+  vs ← tableOf (bit 3 m) 2 512 (virtRegAfter (length rs) (length cs))
+  p ← probeField (bit 4 m)
+  b ← ifBit (bit 5 m) 100_000 (little 4)
+  done (record { regs = rs; classes = cs; fixed = es; virtRegs = vs; probe = p; budget = b })
+
+pub record FirstSizes (t : FirstTables) (rs : List ℕ) (cs : List (List ℕ)) (es : List Entry) : Type 0 where
+  pub regs : length rs ≡ t .regs
+  pub classes : length cs ≡ t .classes
+  pub classRegs : length (allMembers cs) ≡ t .«class_regs»
+  pub fixed : length es ≡ t .fixed
+
+abbrev pub FirstOut : List ℕ → Parsed Job → FirstRead → (List ℕ → Type 0) → (List (List ℕ) → Type 0) → (List Entry → Type 0) → Type 0
+FirstOut s p (NoFirst n) regs classes fixed = p ≡ refused n
+FirstOut s p (IsFirst t at) regs classes fixed =
+    (rs : List ℕ) × (cs : List (List ℕ)) × (es : List Entry) × (p ≡ restOf (t .map) rs cs es (drop at s)) × FirstSizes t rs cs es × regs rs × classes cs × fixed es
+
+-- ---- the last fields
+
+-- what is read after the virtual registers, where the bits of m stand: the probe range and the budget
+unfoldable pub lastOf : ℕ → Parser (Option ValueSegment × ℕ)
+lastOf m = do
+  p ← probeField (bit 4 m)
+  b ← ifBit (bit 5 m) 100_000 (little 4)
+  done (p, b)
+
+abbrev pub LastOut : List ℕ → ℕ → FirstTables → ℕ → ℕ → ℕ → JobRead → Type 0
+LastOut s at t v h g (Refused n) = lastOf (t .map) (drop at s) ≡ refused n
+LastOut s at t v h g (Is d z next) =
+    (lastOf (t .map) (drop at s) ≡ parsed (rangeOf (d .probe), d .budget) (drop next s))
+    × (d ≡ record { regs = t .regs; classes = t .classes; «virt_regs» = v; probe = d .probe; budget = d .budget })
+    × (z ≡ record { «class_regs» = t .«class_regs»; fixed = t .fixed; hints = h; segments = g })

@@ -1,0 +1,152 @@
+// All fields of a job, in byte order.
+ghost use mathlib.Core.Path.{_≡_};
+ghost use lib.ListN.{drop};
+ghost use Rattle.job.specs.Load.{jobFields};
+ghost use Rattle.reader.specs.Read.{probeView, probeField, Stored, ClassesAt, FixedAt};
+ghost use Rattle.reader.specs.Whole.{FirstOut, LastOut};
+use crate::fixed::fixed_table;
+use crate::read::Number;
+use crate::read::Read;
+use crate::read::byte;
+use crate::read::word;
+use crate::read::word_if;
+use crate::regs::ClassesRead;
+use crate::regs::class_table;
+use crate::regs::reg_table;
+use job::JobHeader;
+use job::Probe;
+
+// The probe range with the position after it, or a refusal's number.
+pub enum ProbeRead {
+    Is(Probe, usize),
+    Refused(u8),
+}
+
+// How many numbers the tables of a job take that the header does not count.
+pub struct TableSizes {
+    pub class_regs: usize,
+    pub fixed: usize,
+    pub hints: usize,
+    pub segments: usize,
+}
+
+// What goes by value of the job, the sizes of its tables, and the position after it; or a refusal's number.
+pub enum JobRead {
+    Is(JobHeader, TableSizes, usize),
+    Refused(u8),
+}
+
+// The probe range where its bit stands.
+fn probe_range(s: &[u8], at: usize, stands: bool) -> ProbeRead
+    ensures { λ r. ⌜ probeView (now (s .entry)) r ≡ probeField stands (drop at (now (s .entry))) ⌝ }
+{
+    if stands {
+        let Read::Value(a, at1) = word(s, at) else {
+            return ProbeRead::Refused(1);
+        };
+        let Read::Value(b, next) = word(s, at1) else {
+            return ProbeRead::Refused(1);
+        };
+        if b <= a {
+            return ProbeRead::Refused(5);
+        }
+        if a % 4 == 3 {
+            return ProbeRead::Refused(6);
+        }
+        if b % 4 == 3 {
+            return ProbeRead::Refused(6);
+        }
+        ProbeRead::Is(Probe::Over(a as u32, b as u32), next)
+    } else {
+        ProbeRead::Is(Probe::NoProbe, at)
+    }
+}
+
+// The header's map, and how many registers, classes, registers of classes and fixed reservations there are.
+pub struct FirstTables {
+    pub map: u8,
+    pub regs: u8,
+    pub classes: u8,
+    pub class_regs: usize,
+    pub fixed: usize,
+}
+
+// The same with the position after these tables, or a refusal's number.
+pub enum FirstRead {
+    Is(FirstTables, usize),
+    Refused(u8),
+}
+
+// The tables before the virtual registers, stored from place 0 on: a fixed reservation as unit, start, end and use number.
+fn first_tables(
+    s: &[u8],
+    regs: &mut [u64],
+    cfirsts: &mut [u16],
+    members: &mut [u8],
+    units: &mut [u8],
+    starts: &mut [u32],
+    stops: &mut [u32],
+    uses: &mut [u32],
+) -> FirstRead
+    ensures { λ r. ⌜ FirstOut (now (s .entry)) (jobFields (now (s .entry))) r (λ rs. Stored (λ x. x) (now (regs .entry)) 0 rs (now (regs .exit))) (ClassesAt (now (cfirsts .entry)) (now (members .entry)) (now (cfirsts .exit)) (now (members .exit))) (FixedAt (now (units .entry)) (now (starts .entry)) (now (stops .entry)) (now (uses .entry)) (now (units .exit)) (now (starts .exit)) (now (stops .exit)) (now (uses .exit))) ⌝ }
+{
+    let Read::Value(m, at1) = byte(s, 0) else {
+        return FirstRead::Refused(1);
+    };
+    if 64 <= m {
+        return FirstRead::Refused(3);
+    }
+    match reg_table(s, at1, m / 1 % 2 == 1, regs) {
+        Number::Refused(n) => FirstRead::Refused(n),
+        Number::Is(rn, at2) => {
+            match class_table(s, at2, m / 2 % 2 == 1, rn as u8, cfirsts, members) {
+                ClassesRead::Refused(n) => FirstRead::Refused(n),
+                ClassesRead::Is(cn, mn, at3) => {
+                    match fixed_table(s, at3, m / 4 % 2 == 1, units, starts, stops, uses) {
+                        Number::Refused(n) => FirstRead::Refused(n),
+                        Number::Is(en, next) => FirstRead::Is(
+                            FirstTables {
+                                map: m as u8,
+                                regs: rn as u8,
+                                classes: cn,
+                                class_regs: mn as usize,
+                                fixed: en as usize,
+                            },
+                            next,
+                        ),
+                    }
+                }
+            }
+        }
+    }
+}
+
+// The probe range and the budget, and with them what goes by value of the job.
+fn last_fields(s: &[u8], at: usize, t: FirstTables, vn: u16, hn: u64, gn: u64) -> JobRead
+    ensures { λ r. ⌜ LastOut (now (s .entry)) at t vn hn gn r ⌝ }
+{
+    match probe_range(s, at, t.map / 16 % 2 == 1) {
+        ProbeRead::Refused(n) => JobRead::Refused(n),
+        ProbeRead::Is(p, at6) => {
+            let Read::Value(b, next) = word_if(s, at6, t.map / 32 % 2 == 1, 100000) else {
+                return JobRead::Refused(1);
+            };
+            JobRead::Is(
+                JobHeader {
+                    regs: t.regs,
+                    classes: t.classes,
+                    virt_regs: vn,
+                    probe: p,
+                    budget: b as u32,
+                },
+                TableSizes {
+                    class_regs: t.class_regs,
+                    fixed: t.fixed,
+                    hints: hn as usize,
+                    segments: gn as usize,
+                },
+                next,
+            )
+        }
+    }
+}
