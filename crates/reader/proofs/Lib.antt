@@ -3,3 +3,4 @@ pub mod Reading
 pub mod Stores
 pub mod WeightBits
 pub mod Tables
+pub mod Joined

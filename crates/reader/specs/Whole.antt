@@ -3,8 +3,8 @@ use Prim.Native.Nat.{ℕ}
 use mathlib.Core.Path.{_≡_}
 use mathlib.Core.List.{List}
 use mathlib.Core.Option.{Option}
-use lib.Ieee.{Float}
 use lib.ListN.{drop, length}
+use Rattle.job.specs.declared.Hint.{Hint}
 use Rattle.job.specs.declared.JobHeader.{JobHeader}
 use Rattle.reader.specs.declared.whole.TableSizes.{TableSizes}
 use Rattle.reader.specs.declared.whole.JobRead.{JobRead}
@@ -15,40 +15,20 @@ use Rattle.reader.specs.declared.whole.FirstRead.the-variants.{Is as IsF
 use Rattle.reg_matrix.specs.Lists.{bit}
 use Rattle.reg_matrix.specs.declared.Entry.{Entry}
 use Rattle.reg_matrix.specs.declared.ValueSegment.{ValueSegment}
-use Rattle.job.specs.Model.{Job}
+use Rattle.job.specs.Model.{Job, VirtReg}
 use Rattle.job.specs.Parser.{Parser, Parsed, refused, parsed, _>>=_, done, ifBit, little}
 use Rattle.job.specs.Load.{virtRegAfter}
 use Rattle.job.specs.Layout.{headerOf}
-use Rattle.reader.specs.Read.{tableOf, probeField, rangeOf, Stored, ClassesAt, FixedAt, VirtsAt, HintsAt, SegmentsAt, allMembers, hintsOfAll, segmentsOfAll}
+use Rattle.reader.specs.Read.{tableOf, probeField, rangeOf, allMembers, hintsOfAll, segmentsOfAll}
 
--- the slices that the fields are stored in
-pub record Slices : Type 0 where
-  pub regs : List ℕ
-  pub classStarts : List ℕ
-  pub classRegs : List ℕ
-  pub units : List ℕ
-  pub starts : List ℕ
-  pub stops : List ℕ
-  pub uses : List ℕ
-  pub classes : List ℕ
-  pub valueSets : List ℕ
-  pub spillWeights : List Float
-  pub sizes : List ℕ
-  pub hintStarts : List ℕ
-  pub hintRegs : List ℕ
-  pub hintWeights : List Float
-  pub segmentStarts : List ℕ
-  pub froms : List ℕ
-  pub tos : List ℕ
-  pub values : List ℕ
-
-pub record JobAt (b b′ : Slices) (j : Job) : Type 0 where
-  pub regs : Stored (λ (x : ℕ). x) (b .regs) 0 (j .regs) (b′ .regs)
-  pub classes : ClassesAt (b .classStarts) (b .classRegs) (b′ .classStarts) (b′ .classRegs) (j .classes)
-  pub fixed : FixedAt (b .units) (b .starts) (b .stops) (b .uses) (b′ .units) (b′ .starts) (b′ .stops) (b′ .uses) (j .fixed)
-  pub virtRegs : VirtsAt (b .classes) (b .valueSets) (b .spillWeights) (b .sizes) (b .hintStarts) (b .segmentStarts) (b′ .classes) (b′ .valueSets) (b′ .spillWeights) (b′ .sizes) (b′ .hintStarts) (b′ .segmentStarts) (j .virtRegs)
-  pub hints : HintsAt 0 (b .hintRegs) (b .hintWeights) (b′ .hintRegs) (b′ .hintWeights) (hintsOfAll (j .virtRegs))
-  pub segments : SegmentsAt 0 (b .froms) (b .tos) (b .values) (b′ .froms) (b′ .tos) (b′ .values) (segmentsOfAll (j .virtRegs))
+-- each table of the job is stored
+pub record JobAt (rs : List ℕ → Type 0) (cs : List (List ℕ) → Type 0) (es : List Entry → Type 0) (vs : List VirtReg → Type 0) (hs : List Hint → Type 0) (ss : List ValueSegment → Type 0) (j : Job) : Type 0 where
+  pub regs : rs (j .regs)
+  pub classes : cs (j .classes)
+  pub fixed : es (j .fixed)
+  pub virtRegs : vs (j .virtRegs)
+  pub hints : hs (hintsOfAll (j .virtRegs))
+  pub segments : ss (segmentsOfAll (j .virtRegs))
 
 pub record SizesOf (z : TableSizes) (j : Job) : Type 0 where
   pub classRegs : length (allMembers (j .classes)) ≡ z .«class_regs»
@@ -56,9 +36,13 @@ pub record SizesOf (z : TableSizes) (j : Job) : Type 0 where
   pub hints : length (hintsOfAll (j .virtRegs)) ≡ z .hints
   pub segments : length (segmentsOfAll (j .virtRegs)) ≡ z .segments
 
-abbrev pub JobOut : List ℕ → Parsed Job → JobRead → (Job → Type 0) → Type 0
-JobOut s p (Refused n) stored = p ≡ refused n
-JobOut s p (Is h z at) stored = (j : Job) × (p ≡ parsed j (drop at s)) × (h ≡ headerOf j) × SizesOf z j × stored j
+abbrev JobParts : List ℕ → Parsed Job → JobRead → (Job → Type 0) → Type 0
+JobParts s p (Refused n) stored = p ≡ refused n
+JobParts s p (Is h z at) stored = (j : Job) × (p ≡ parsed j (drop at s)) × (h ≡ headerOf j) × SizesOf z j × stored j
+
+-- where the parser answers p: the same refusal, or the job's header, its sizes, a position, and what is stored
+pub record JobOut (s : List ℕ) (p : Parsed Job) (r : JobRead) (stored : Job → Type 0) : Type 0 where
+  pub parts : JobParts s p r stored
 
 -- ---- the first tables
 

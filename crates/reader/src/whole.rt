@@ -2,8 +2,8 @@
 ghost use mathlib.Core.Path.{_≡_};
 ghost use lib.ListN.{drop};
 ghost use Rattle.job.specs.Load.{jobFields};
-ghost use Rattle.reader.specs.Read.{probeView, probeField, Stored, ClassesAt, FixedAt};
-ghost use Rattle.reader.specs.Whole.{FirstOut, LastOut};
+ghost use Rattle.reader.specs.Read.{probeView, probeField, Stored, ClassesAt, FixedAt, VirtsAt, HintsAt, SegmentsAt};
+ghost use Rattle.reader.specs.Whole.{FirstOut, LastOut, JobOut, JobAt};
 use crate::fixed::fixed_table;
 use crate::read::Number;
 use crate::read::Read;
@@ -13,6 +13,8 @@ use crate::read::word_if;
 use crate::regs::ClassesRead;
 use crate::regs::class_table;
 use crate::regs::reg_table;
+use crate::virt::VirtTable;
+use crate::virt::virt_table;
 use job::JobHeader;
 use job::Probe;
 
@@ -148,5 +150,55 @@ fn last_fields(s: &[u8], at: usize, t: FirstTables, vn: u16, hn: u64, gn: u64) -
                 next,
             )
         }
+    }
+}
+
+// All fields of a job, each table stored from place 0 on, where there is room.
+pub fn job_fields(
+    s: &[u8],
+    regs: &mut [u64],
+    cfirsts: &mut [u16],
+    members: &mut [u8],
+    units: &mut [u8],
+    starts: &mut [u32],
+    stops: &mut [u32],
+    uses: &mut [u32],
+    kinds: &mut [u8],
+    groups: &mut [u16],
+    spills: &mut [f32],
+    sizes: &mut [u32],
+    hfirsts: &mut [u16],
+    owners: &mut [u8],
+    weights: &mut [f32],
+    gfirsts: &mut [u16],
+    froms: &mut [u32],
+    tos: &mut [u32],
+    values: &mut [u16],
+) -> JobRead
+    ensures { λ r. ⌜ JobOut (now (s .entry)) (jobFields (now (s .entry))) r (JobAt (λ rs. Stored (λ x. x) (now (regs .entry)) 0 rs (now (regs .exit))) (ClassesAt (now (cfirsts .entry)) (now (members .entry)) (now (cfirsts .exit)) (now (members .exit))) (FixedAt (now (units .entry)) (now (starts .entry)) (now (stops .entry)) (now (uses .entry)) (now (units .exit)) (now (starts .exit)) (now (stops .exit)) (now (uses .exit))) (VirtsAt (now (kinds .entry)) (now (groups .entry)) (now (spills .entry)) (now (sizes .entry)) (now (hfirsts .entry)) (now (gfirsts .entry)) (now (kinds .exit)) (now (groups .exit)) (now (spills .exit)) (now (sizes .exit)) (now (hfirsts .exit)) (now (gfirsts .exit))) (HintsAt 0 (now (owners .entry)) (now (weights .entry)) (now (owners .exit)) (now (weights .exit))) (SegmentsAt 0 (now (froms .entry)) (now (tos .entry)) (now (values .entry)) (now (froms .exit)) (now (tos .exit)) (now (values .exit)))) ⌝ }
+{
+    match first_tables(s, regs, cfirsts, members, units, starts, stops, uses) {
+        FirstRead::Refused(n) => JobRead::Refused(n),
+        FirstRead::Is(t, at) => match virt_table(
+            s,
+            at,
+            t.map / 8 % 2 == 1,
+            t.regs,
+            t.classes,
+            kinds,
+            groups,
+            spills,
+            sizes,
+            hfirsts,
+            owners,
+            weights,
+            gfirsts,
+            froms,
+            tos,
+            values,
+        ) {
+            VirtTable::Refused(n) => JobRead::Refused(n),
+            VirtTable::Is(vn, hn, gn, next) => last_fields(s, next, t, vn, hn, gn),
+        },
     }
 }
