@@ -72,7 +72,7 @@ module _ {t : FirstTables} {rs : List ℕ} {cs : List (List ℕ)} {es : List Ent
         jobOf rs cs es vs (rangeOf (d .probe)) (d .budget),
         w ∙ rest-last ∙ rw (i, o .0),
         o .1 ∙ header d a,
-        rw (o .2) (record { classRegs = z .classRegs; fixed = z .fixed; hints = b; segments = c }),
+        rw (o .2) (record { classRegs = z .classRegs; fewClassRegs = z .fewClassRegs; fixed = z .fixed; hints = b; segments = c }),
         k (rangeOf (d .probe)) (d .budget),
       );
     }

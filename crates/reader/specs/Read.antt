@@ -119,7 +119,7 @@ pub record ClassesAt (b m b′ m′ : List ℕ) (cs : List (List ℕ)) : Type 0 
 abbrev pub ClassesOut : List ℕ → Parsed (List (List ℕ)) → ClassesRead → (List (List ℕ) → Type 0) → Type 0
 ClassesOut s p (NoClasses n) stored = p ≡ refused n
 ClassesOut s p (IsClasses n k at) stored =
-    (cs : List (List ℕ)) × (p ≡ parsed cs (drop at s)) × (length cs ≡ n) × (length (allMembers cs) ≡ k) × (k ≤ 16320) × stored cs
+    (cs : List (List ℕ)) × (p ≡ parsed cs (drop at s)) × (length cs ≡ n) × (length (allMembers cs) ≡ k) × (k ≤ 1024) × stored cs
 
 -- ---- fixed reservations
 

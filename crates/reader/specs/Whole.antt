@@ -1,5 +1,5 @@
 -- What reading all fields of a job promises: the job of Load.antt, its header and sizes, and every table stored. Assumes nothing.
-use Prim.Native.Nat.{ℕ}
+use Prim.Native.Nat.{ℕ, _≤_}
 use mathlib.Core.Path.{_≡_}
 use mathlib.Core.List.{List}
 use mathlib.Core.Option.{Option}
@@ -32,6 +32,7 @@ pub record JobAt (rs : List ℕ → Type 0) (cs : List (List ℕ) → Type 0) (e
 
 pub record SizesOf (z : TableSizes) (j : Job) : Type 0 where
   pub classRegs : length (allMembers (j .classes)) ≡ z .«class_regs»
+  pub fewClassRegs : z .«class_regs» ≤ 1024
   pub fixed : length (j .fixed) ≡ z .fixed
   pub hints : length (hintsOfAll (j .virtRegs)) ≡ z .hints
   pub segments : length (segmentsOfAll (j .virtRegs)) ≡ z .segments
@@ -58,6 +59,7 @@ pub record FirstSizes (t : FirstTables) (rs : List ℕ) (cs : List (List ℕ)) (
   pub regs : length rs ≡ t .regs
   pub classes : length cs ≡ t .classes
   pub classRegs : length (allMembers cs) ≡ t .«class_regs»
+  pub fewClassRegs : t .«class_regs» ≤ 1024
   pub fixed : length es ≡ t .fixed
 
 abbrev pub FirstOut : List ℕ → Parsed Job → FirstRead → (List ℕ → Type 0) → (List (List ℕ) → Type 0) → (List Entry → Type 0) → Type 0

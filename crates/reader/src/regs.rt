@@ -1,7 +1,7 @@
 // The registers and the classes of a job.
 ghost use mathlib.Core.Path.{_≡_};
 ghost use mathlib.Core.List.{[]};
-ghost use Prim.Native.Nat.{_+_, _≤_};
+ghost use Prim.Native.Nat.{_+_, _*_, _≤_};
 ghost use lib.ListN.{length, drop};
 ghost use Rattle.job.specs.Load.{register as registerOf, known as knownOf, class as classOf};
 ghost use Rattle.job.specs.Parser.{each};
@@ -99,7 +99,7 @@ pub fn classes(
     starts: &mut [u16],
     list: &mut [u8],
 ) -> Number
-    ensures { λ r. ⌜ Counted (now (s .entry)) (each (λ before. classOf regs) count [] (drop start (now (s .entry)))) (λ cs. length (allMembers cs)) 16320 r (ClassesAt (now (starts .entry)) (now (list .entry)) (now (starts .exit)) (now (list .exit))) ⌝ }
+    ensures { λ r. ⌜ Counted (now (s .entry)) (each (λ before. classOf regs) count [] (drop start (now (s .entry)))) (λ cs. length (allMembers cs)) (64 * count) r (ClassesAt (now (starts .entry)) (now (list .entry)) (now (starts .exit)) (now (list .exit))) ⌝ }
 {
     put16(starts, 0, 0);
     let mut at = start;

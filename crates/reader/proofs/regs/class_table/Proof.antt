@@ -54,7 +54,7 @@ same-length-4 c = search needs
 returns-3 : tie.Need-returns-3
 returns-3 c =
     let w = rw (c .before .g .given .1) at (c .before .before .before .before .before .before .before .classes .ensures) in
-    (w .0, counted (λ before. class (c .before .before .before .before .before .before .before .before .before .before .before .before .before .before .before .before .before .args .regs)) (c .before .before .before .before .before .before .before .before .before .before .before .before .before .before .before .before .before .args .stands) 1 16 _ ∙ rw (took-num (c .before .before .before .before .before .before .before .before .before .before .before .before .before .count8 .ensures) (c .before .before .before .before .before .before .before .before .before .before .before .k .given .1)) (w .1), each-length (λ before. class (c .before .before .before .before .before .before .before .before .before .before .before .before .before .before .before .before .before .args .regs)) (c .before .before .before .before .before .before .before .before .before .before .before .k .given .0 .0) [] _ (w .1) ∙ omega arith, w .2, w .3, w .4)
+    (w .0, counted (λ before. class (c .before .before .before .before .before .before .before .before .before .before .before .before .before .before .before .before .before .args .regs)) (c .before .before .before .before .before .before .before .before .before .before .before .before .before .before .before .before .before .args .stands) 1 16 _ ∙ rw (took-num (c .before .before .before .before .before .before .before .before .before .before .before .before .before .count8 .ensures) (c .before .before .before .before .before .before .before .before .before .before .before .k .given .1)) (w .1), each-length (λ before. class (c .before .before .before .before .before .before .before .before .before .before .before .before .before .before .before .before .before .args .regs)) (c .before .before .before .before .before .before .before .before .before .before .before .k .given .0 .0) [] _ (w .1) ∙ omega arith, w .2, omega (arith, w .3, num-small (c .before .before .before .before .before .before .before .before .before .before .before .before .before .count8 .ensures) (c .before .before .before .before .before .before .before .before .before .before .before .k .given .1)), w .4)
 
 pub class-table-spec : {M : Type 1} → statement M
 class-table-spec =

@@ -144,7 +144,7 @@ returns-6 c =
       x .0,
       y .0,
       first-is (c .before .before .before .before .before .before .before .before .before .before .before .before .before .before .before .before .before .before .before .before .before .before .before .before .before .before .before .before .before .before .before .before .before .before .before .before .before .before .before .before .before .before .before .before .before .before .args .s .now) (took (c .before .before .before .before .before .before .before .before .before .before .before .before .before .before .before .before .before .before .before .before .before .before .before .before .before .before .before .before .before .before .before .before .before .before .before .before .before .byte .ensures) (c .before .before .before .before .before .before .before .before .before .before .before .before .before .before .before .before .before .before .before .before .before .before .before .before .before .before .before .before .before .before .before .before .before .before .before .m .given .1)) (lt-leb _ _ (c .before .before .before .before .before .before .before .before .before .before .before .before .before .before .before .before .before .before .before .before .before .before .before .before .before .before .before .before .before .before .before .before .before .if1 .left)) (w .1) (w .2) (x .1) (y .1),
-      record { regs = w .2; classes = x .2; classRegs = x .3; fixed = y .2 },
+      record { regs = w .2; classes = x .2; classRegs = x .3; fewClassRegs = x .4; fixed = y .2 },
       w .4,
       x .5,
       y .4,
