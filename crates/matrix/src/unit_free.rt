@@ -7,7 +7,7 @@ ghost use Rattle.matrix.specs.Moves.{words};
 ghost use Rattle.reg_matrix.specs.Questions.{spareRefusal};
 ghost use Rattle.matrix.specs.Placing.{freeAt, range, spareAnswer};
 use crate::UnitFree;
-use crate::lent::at;
+use lent::at;
 use crate::search::find;
 
 // Whether the unit's first entry that ends past `from`, if there is one, starts past `to`.

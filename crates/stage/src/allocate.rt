@@ -14,9 +14,9 @@ use crate::evict::Tried;
 use crate::evict::is_cheaper;
 use crate::evict::may_evict;
 use crate::evict::try_reports;
-use crate::lent::at;
-use crate::lent::at8;
-use crate::lent::weight_at;
+use lent::at;
+use lent::at8;
+use lent::at_float;
 use crate::order::AllocationOrder;
 use crate::order::Offer;
 use crate::order::candidate;
@@ -268,7 +268,7 @@ pub fn try_evict_for_preferred_reg(
         }
         let c = CandidateReg {
             reg: at8(regs, place),
-            preference_weight: weight_at(weights, place),
+            preference_weight: at_float(weights, place),
         };
         let units = at(maps, wide(c.reg));
         let t = try_on(
