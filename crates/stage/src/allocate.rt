@@ -14,15 +14,15 @@ use crate::evict::Tried;
 use crate::evict::is_cheaper;
 use crate::evict::may_evict;
 use crate::evict::try_reports;
-use lent::at;
-use lent::at8;
-use lent::at_float;
 use crate::order::AllocationOrder;
 use crate::order::Offer;
 use crate::order::candidate;
 use allocator::Assignment;
 use allocator::CandidateReg;
 use allocator::EvictCost;
+use lent::at;
+use lent::at_float;
+use lent::at8;
 use matrix::Step;
 use matrix::check::enter;
 
