@@ -14,7 +14,7 @@ use Rattle.job.specs.declared.Hint.{Hint}
 use Rattle.job.specs.Model.{Job, VirtReg, noVirtReg, zeroWeight, virtReg}
 use Rattle.job.specs.Layout.{jobBuffers, startsFrom}
 use Rattle.reader.specs.Read.{allMembers, hintsOfAll, segmentsOfAll}
-use Rattle.reader.proofs.Stores.{getD-any}
+use Rattle.lent.proofs.Laws.{any-default}
 use Rattle.reader.proofs.Tables.{starts-length}
 
 -- ---- one number each
@@ -27,7 +27,7 @@ module _ {A B : Type 0} (f : A → B) (n : ℕ) (e : B) (xs : List A) (t : List 
       let m : i < length (map f xs ++ replicate (n - length (map f xs)) e) = omega (arith, length-append (map f xs) (replicate (n - length (map f xs)) e)) in
       List·getD-append (map f xs ++ replicate (n - length (map f xs)) e) t e i m
       ∙ List·getD-append (map f xs) (replicate (n - length (map f xs)) e) e i l
-      ∙ getD-any (map f xs) i e (f d) l
+      ∙ any-default (map f xs) i e (f d) l
       ∙ List·getD-map f xs i d
 
 module _ (j : Job) (v : ℕ) (h : v < length (j .virtRegs)) where

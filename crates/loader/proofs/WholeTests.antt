@@ -22,7 +22,7 @@ use Rattle.job.specs.Model.{VirtReg, noVirtReg, Job}
 use Rattle.job.specs.Load.{twin, mixedSet, cutUse, cuts, useOfValue}
 use Rattle.reader.specs.Read.{Stored, ClassesAt, allMembers, FixedAt, SegmentsAt, useNumber, segmentsOfAll}
 use Rattle.loader.specs.Tests.{equalAt, memberTwice, classesDiffer, crosses, crossesAt}
-use Rattle.reader.proofs.Stores.{getD-any}
+use Rattle.lent.proofs.Laws.{any-default}
 use Rattle.loader.proofs.Places.{anys-at, pairs-at, pair-at}
 use Rattle.job.proofs.Units.{same-self}
 use Rattle.job.proofs.Lists.{getD-in}
@@ -37,7 +37,7 @@ module _ {A B : Type 0} {f : A → B} where
       let m : i < length (map f xs) = omega arith in
       ap (λ (z : List B). getD z i e) (h .is ∙ sets-eq (map f xs) b 0 (omega arith))
       ∙ List·getD-append (map f xs) (drop (0 + length (map f xs)) b) e i m
-      ∙ getD-any (map f xs) i e (f d) m
+      ∙ any-default (map f xs) i e (f d) m
       ∙ List·getD-map f xs i d
 
 -- ---- 11

@@ -7,10 +7,10 @@ ghost use lib.Dec.{eqb, ltb};
 ghost use lib.ListN.{getD};
 ghost use Rattle.reg_matrix.specs.Lists.{any, anyPair, count};
 ghost use Rattle.loader.specs.Tests.{equalAt, memberTwice, classesDiffer, crosses, crossesAt};
-use reader::lent::at8;
-use reader::lent::at16;
-use reader::lent::at32;
-use reader::lent::at64;
+use lent::at;
+use lent::at8;
+use lent::at16;
+use lent::at32;
 
 // x stands at a place from `from` to the one before `to`.
 fn map_among(maps: &[u64], from: usize, to: usize, x: u64) -> bool
@@ -18,7 +18,7 @@ fn map_among(maps: &[u64], from: usize, to: usize, x: u64) -> bool
 {
     let mut k = from;
     while k < to {
-        if x == at64(maps, k) {
+        if x == at(maps, k) {
             return true;
         }
         k += 1;
@@ -33,7 +33,7 @@ pub fn same_map(maps: &[u64], n: usize) -> bool
     let mut i = 0;
     while i < n {
         let next = i + 1;
-        if map_among(maps, next, n, at64(maps, i)) {
+        if map_among(maps, next, n, at(maps, i)) {
             return true;
         }
         i = next;

@@ -1,11 +1,10 @@
 -- Stores of a list, one by one. Assumes nothing.
-use Prim.Native.Nat.{ℕ, zero, suc, _+_, _-_, _≤_, _<_}
+use Prim.Native.Nat.{ℕ, suc, _+_, _-_, _≤_}
 use native.Mathlib.Omega.{arith}
 use native.Mathlib.Nat.{add-zero}
 use mathlib.Core.Path.{_≡_, refl, ap, sym, _∙_}
 use mathlib.Core.List.{List, [], _∷_, _++_, map}
-use native.Mathlib.Numerals.{add-one}
-use lib.ListN.{length, getD, set, drop, replicate, length-map, length-append, length-replicate}
+use lib.ListN.{length, set, drop, replicate, length-map, length-append, length-replicate}
 use lib.Seq.{sets, length-sets, sets-eq}
 use Rattle.reg_matrix.specs.Lists.{padded}
 use Rattle.reader.specs.Read.{Stored, Laid}
@@ -18,13 +17,6 @@ module _ {A : Type 0} where
   pub sets-append : (l : List A) (i : ℕ) (vs ws : List A) → sets l i (vs ++ ws) ≡ sets (sets l i vs) (i + length vs) ws
   sets-append l i [] ws = rw add-zero
   sets-append l i (v ∷ vs) ws = sets-append (set l i v) (suc i) vs ws ∙ ap (λ (k : ℕ). sets (sets l i (v ∷ vs)) k ws) (omega arith)
-
-module _ {A : Type 0} where
-  -- where there is a place, what a read gives past the end does not matter
-  pub getD-any : (l : List A) (i : ℕ) (d e : A) → i < length l → getD l i d ≡ getD l i e
-  getD-any [] i d e h = absurd (omega arith)
-  getD-any (x ∷ l) zero d e h = refl
-  getD-any (x ∷ l) (suc i) d e h = getD-any l i d e (omega arith)
 
 module _ {A B : Type 0} where
   map-more : (f : A → B) (xs : List A) (x : A) → map f (xs ++ (x ∷ [])) ≡ map f xs ++ (f x ∷ [])
@@ -51,19 +43,8 @@ module _ {A B : Type 0} {f : A → B} where
     pub stored-append : {ys : List A} {b″ : List B} {k : ℕ} → g + length xs ≡ k → Stored f b′ k ys b″ → Stored f b g (xs ++ ys) b″
     stored-append {ys} n e = record { is = e .is ∙ rw (h .is, map-append f xs ys, sets-append, length-map, n) }
 
--- a loop that stores d: the rest from here is the whole
 module _ {A : Type 0} (d : A) where
-  pub pad-more : (b b′ : List A) (i to : ℕ) → i < to → b′ ≡ set b i d → sets b i (replicate (to - i) d) ≡ sets b′ (i + 1) (replicate (to - (i + 1)) d)
-  pad-more b b′ i to h e =
-      let k : to - i ≡ suc (to - (i + 1)) = omega arith in
-      rw (k, e, add-one i)
-
-  pub pad-end : (b : List A) (i to : ℕ) → to ≤ i → sets b i (replicate (to - i) d) ≡ b
-  pad-end b i to h =
-      let k : to - i ≡ 0 = omega arith in
-      rw k
-
-  -- and the rest of a longer slice
+  -- a table padded to its limit, and the rest of a longer slice
   pub pad-tail : (b vs : List A) (limit : ℕ) → length vs ≤ limit → limit ≤ length b → sets b 0 (padded limit d vs) ≡ padded limit d vs ++ drop limit b
   unfolding padded
   pad-tail b vs limit h l =

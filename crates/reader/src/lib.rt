@@ -1,7 +1,6 @@
 // Reading a job: its fields and tables from bytes into lent numbers, each as the parsers of the crate job say.
 
 mod fixed;
-pub mod lent;
 mod read;
 mod regs;
 mod virt;

@@ -6,15 +6,15 @@ ghost use lib.ListN.{length, drop};
 ghost use Rattle.job.specs.Load.{register as registerOf, known as knownOf, class as classOf};
 ghost use Rattle.job.specs.Parser.{each};
 ghost use Rattle.reader.specs.Read.{Num, Outcome, Counted, Stored, ClassesAt, ClassesOut, allMembers, tableOf};
-use crate::lent::put8;
-use crate::lent::put16;
-use crate::lent::put64;
 use crate::read::Next;
 use crate::read::Number;
 use crate::read::Read;
 use crate::read::count8;
 use crate::read::known8;
 use crate::read::long;
+use lent::put;
+use lent::put8;
+use lent::put16;
 
 // The map of units at `at`: of 1 to 4 units.
 fn register(s: &[u8], at: usize) -> Number
@@ -44,7 +44,7 @@ pub fn registers(s: &[u8], start: usize, count: u8, maps: &mut [u64]) -> Next
                 return Next::Refused(n);
             }
             Number::Is(m, next) => {
-                put64(maps, i, m);
+                put(maps, i, m);
                 at = next;
             }
         }

@@ -8,10 +8,6 @@ ghost use lib.ListN.{length, drop, set};
 ghost use Rattle.job.specs.Load.{hint as hintOf, range as rangeOf, segment as segmentOf, hintCount, segmentCount, hints as hintsOf, segments as segmentsOf, spillBits, known, virtRegFields, virtRegAt, virtRegAfter};
 ghost use Rattle.job.specs.Parser.{each, ifBit, little};
 ghost use Rattle.reader.specs.Read.{Num, hintView, segmentView, fieldsView, Outcome, Counted, HintsAt, SegmentsAt, VirtOut, VirtsOut, VirtsAt, FieldsAt, TableOut, tableOf};
-use crate::lent::put_float;
-use crate::lent::put8;
-use crate::lent::put16;
-use crate::lent::put32;
 use crate::read::Next;
 use crate::read::Number;
 use crate::read::Read;
@@ -24,6 +20,10 @@ use crate::read::word;
 use crate::read::word_if;
 use job::Hint;
 use job::VirtRegFields;
+use lent::put_float;
+use lent::put8;
+use lent::put16;
+use lent::put32;
 use reg_matrix::ValueSegment;
 
 // A segment with the position after it, or a refusal's number.

@@ -19,11 +19,11 @@ abbrev μ-loop : tie.MeasureT-loop
 loop-holds : tie.Need-loop-holds Inv-loop μ-loop
 loop-holds c = refl
 
-at64-requires : tie.Need-at64-requires Inv-loop μ-loop
-at64-requires c κs = search needs
+at-requires : tie.Need-at-requires Inv-loop μ-loop
+at-requires c κs = search needs
 
 returns : tie.Need-returns Inv-loop μ-loop
-returns c = sym (c .before .before .before .loop .inv ∙ any-more _ (c .before .before .before .before .before .args .to) (c .before .before .before .loop .k) (c .before .before .loop-test .taken) ∙ rw (eq-eqb _ _ (c .if1 .taken ∙ c .before .at64 .ensures)))
+returns c = sym (c .before .before .before .loop .inv ∙ any-more _ (c .before .before .before .before .before .args .to) (c .before .before .before .loop .k) (c .before .before .loop-test .taken) ∙ rw (eq-eqb _ _ (c .if1 .taken ∙ c .before .at .ensures)))
 
 add-k : tie.Need-add-k Inv-loop μ-loop
 add-k c = search needs
@@ -32,7 +32,7 @@ loop-less : tie.Need-loop-less Inv-loop μ-loop
 loop-less c = search needs
 
 loop-again : tie.Need-loop-again Inv-loop μ-loop
-loop-again c = c .before .before .before .loop .inv ∙ any-more _ (c .before .before .before .before .before .args .to) (c .before .before .before .loop .k) (c .before .before .loop-test .taken) ∙ rw (ne-eqb _ _ (λ e. c .if1 .left (e ∙ sym (c .before .at64 .ensures))))
+loop-again c = c .before .before .before .loop .inv ∙ any-more _ (c .before .before .before .before .before .args .to) (c .before .before .before .loop .k) (c .before .before .loop-test .taken) ∙ rw (ne-eqb _ _ (λ e. c .if1 .left (e ∙ sym (c .before .at .ensures))))
 
 returns-2 : tie.Need-returns-2 Inv-loop μ-loop
 returns-2 c = sym (c .before .loop .inv ∙ any-end _ (c .before .before .before .args .to) (c .before .loop .k) (c .loop-test .left))
@@ -44,7 +44,7 @@ map-among-spec =
     Inv-loop
     μ-loop
     loop-holds
-    at64-requires
+    at-requires
     returns
     add-k
     loop-less

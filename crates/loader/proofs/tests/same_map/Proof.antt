@@ -23,20 +23,20 @@ loop-holds c =
 add-next : tie.Need-add-next Inv-loop μ-loop
 add-next c = search needs
 
-at64-requires : tie.Need-at64-requires Inv-loop μ-loop
-at64-requires c κs = search needs
+at-requires : tie.Need-at-requires Inv-loop μ-loop
+at-requires c κs = search needs
 
 map-among-requires : tie.Need-map-among-requires Inv-loop μ-loop
 map-among-requires c κs = search needs
 
 returns : tie.Need-returns Inv-loop μ-loop
-returns c = sym (c .before .before .before .before .loop .inv ∙ pair-more _ (c .before .before .before .before .before .before .args .n) (c .before .before .before .before .loop .i) (c .before .before .before .loop-test .taken) ∙ rw (← simp (c .before .before .at64 .ensures) at (c .before .map-among .ensures), c .if1 .taken))
+returns c = sym (c .before .before .before .before .loop .inv ∙ pair-more _ (c .before .before .before .before .before .before .args .n) (c .before .before .before .before .loop .i) (c .before .before .before .loop-test .taken) ∙ rw (← simp (c .before .before .at .ensures) at (c .before .map-among .ensures), c .if1 .taken))
 
 loop-less : tie.Need-loop-less Inv-loop μ-loop
 loop-less c = search needs
 
 loop-again : tie.Need-loop-again Inv-loop μ-loop
-loop-again c = c .before .before .before .before .loop .inv ∙ pair-more _ (c .before .before .before .before .before .before .args .n) (c .before .before .before .before .loop .i) (c .before .before .before .loop-test .taken) ∙ rw (← simp (c .before .before .at64 .ensures) at (c .before .map-among .ensures), c .if1 .left)
+loop-again c = c .before .before .before .before .loop .inv ∙ pair-more _ (c .before .before .before .before .before .before .args .n) (c .before .before .before .before .loop .i) (c .before .before .before .loop-test .taken) ∙ rw (← simp (c .before .before .at .ensures) at (c .before .map-among .ensures), c .if1 .left)
 
 returns-2 : tie.Need-returns-2 Inv-loop μ-loop
 returns-2 c = sym (c .before .loop .inv ∙ pair-end _ (c .before .before .before .args .n) (c .before .loop .i) (c .loop-test .left))
@@ -49,7 +49,7 @@ same-map-spec =
     μ-loop
     loop-holds
     add-next
-    at64-requires
+    at-requires
     map-among-requires
     returns
     loop-less

@@ -38,8 +38,8 @@ returns c = stops (c .before .before .before .before .before .loop .inv .1) (c .
 enum-known-m : tie.Need-enum-known-m Inv-loop μ-loop
 enum-known-m c = search needs
 
-put64-requires : tie.Need-put64-requires Inv-loop μ-loop
-put64-requires c κs = search needs
+put-requires : tie.Need-put-requires Inv-loop μ-loop
+put-requires c κs = search needs
 
 add-i : tie.Need-add-i Inv-loop μ-loop
 add-i c = search needs
@@ -52,7 +52,7 @@ loop-again c =
     let v = c .before .before .before .before .before .before .before .before .before .loop .inv in
     let x = c .before .before .before .before .before .m .given .0 .0 in
     let n : 0 + length (v .0) ≡ c .before .before .before .before .before .before .before .before .before .loop .i = omega (arith, v .1 .read) in
-    (v .0 ++ (x ∷ []), more (v .1) (c .before .before .before .before .before .before .before .before .loop-test .taken) (took-num (c .before .before .before .before .before .before .before .register .ensures) (c .before .before .before .before .before .m .given .1)), more-stored (v .2) x n (c .before .before .put64 .ensures))
+    (v .0 ++ (x ∷ []), more (v .1) (c .before .before .before .before .before .before .before .before .loop-test .taken) (took-num (c .before .before .before .before .before .before .before .register .ensures) (c .before .before .before .before .before .m .given .1)), more-stored (v .2) x n (c .before .before .put .ensures))
 
 same-length-2 : tie.Need-same-length-2 Inv-loop μ-loop
 same-length-2 c = stored-length (c .before .loop .inv .2)
@@ -72,7 +72,7 @@ registers-spec =
     same-length
     returns
     enum-known-m
-    put64-requires
+    put-requires
     add-i
     loop-less
     loop-again
