@@ -6,7 +6,7 @@ use mathlib.Core.Path.{_≡_, refl, ap, _∙_}
 use mathlib.Core.Bool.{Bool, false, _||_}
 use mathlib.Core.List.{List, [], _∷_}
 use lib.ListN.{length, getD}
-use Rattle.reg_matrix.specs.Lists.{any, anyPair, count}
+use Rattle.reg_matrix.specs.Lists.{any, anyPair, foldl, count}
 
 module _ (p : ℕ → Bool) (n i : ℕ) where
   pub any-more : i < n → any p (count i (n - i)) ≡ (p i || any p (count (i + 1) (n - (i + 1))))
@@ -31,6 +31,19 @@ module _ (p : ℕ → ℕ → Bool) (n i : ℕ) where
   pub pair-end : n ≤ i → anyPair p (count i (n - i)) ≡ false
   unfolding anyPair count
   pair-end h =
+      let k : n - i ≡ 0 = omega arith in
+      rw k
+
+module _ {L : Type 0} (g : L → ℕ → L) (n i : ℕ) (l : L) where
+  pub fold-more : i < n → foldl g l (count i (n - i)) ≡ foldl g (g l i) (count (i + 1) (n - (i + 1)))
+  unfolding foldl count
+  fold-more h =
+      let k : n - i ≡ suc (n - (i + 1)) = omega arith in
+      rw (k, add-one i)
+
+  pub fold-end : n ≤ i → foldl g l (count i (n - i)) ≡ l
+  unfolding foldl count
+  fold-end h =
       let k : n - i ≡ 0 = omega arith in
       rw k
 
@@ -63,3 +76,12 @@ module _ {A : Type 0} (d : A) where
 
   pub pairs-at : (p : A → A → Bool) (q : ℕ → ℕ → Bool) (xs : List A) → ((k m : ℕ) → k < length xs → m < length xs → q k m ≡ p (getD xs k d) (getD xs m d)) → anyPair q (count 0 (length xs)) ≡ anyPair p xs
   pairs-at p q xs h = pair-at p q xs 0 (λ k m a b. both q (omega arith) (omega arith) ∙ h k m a b)
+
+-- a fold by places is a fold over what stands there
+module _ {L A : Type 0} (d : A) (g : L → ℕ → L) (p : L → A → L) where
+  pub fold-at : (xs : List A) (i : ℕ) (l : L) → ((k : ℕ) (l : L) → k < length xs → g l (i + k) ≡ p l (getD xs k d)) → foldl g l (count i (length xs)) ≡ foldl p l xs
+  unfolding foldl count
+  fold-at [] i l h = refl
+  fold-at (x ∷ xs) i l h =
+      ap (λ (z : L). foldl g z (count (suc i) (length xs))) (ap (g l) (omega arith) ∙ h 0 l (omega arith))
+      ∙ fold-at xs (suc i) (p l x) (λ k l m. ap (g l) (omega arith) ∙ h (suc k) l (omega arith))

@@ -68,7 +68,7 @@ use-test x (Held v i) = ne-eqb 0 (x + 1) (λ q. omega arith)
 use-test x (FixedUse y) = same-number x y
 use-test x FixedDef = ne-eqb 0 (x + 1) (λ q. omega arith)
 
-noEntry : Entry
+pub noEntry : Entry
 noEntry = record { unit = 0; from = 0; to = 0; reservation = FixedDef }
 
 noSegment : ValueSegment

@@ -1,7 +1,7 @@
 -- The tests of a whole job as the code makes them, by places of lent numbers. Assumes nothing.
 use Prim.Native.Nat.{ℕ, _+_, _-_}
 use mathlib.Core.List.{List}
-use mathlib.Core.Bool.{Bool, not, _||_, _&&_}
+use mathlib.Core.Bool.{Bool, true, false, not, _||_, _&&_}
 use lib.Dec.{ltb, eqb}
 use lib.ListN.{getD}
 use Rattle.reg_matrix.specs.Lists.{any, anyPair, count}
@@ -26,3 +26,10 @@ crosses v from to a b u = eqb u v && ((ltb a from && ltb from b) || (ltb a to &&
 abbrev pub crossesAt : List ℕ → List ℕ → List ℕ → List ℕ → List ℕ → List ℕ → ℕ → ℕ → Bool
 crossesAt froms tos values starts stops uses n i =
     any (λ k. crosses (getD values i 0 + 1) (getD froms i 0) (getD tos i 0) (getD starts k 0) (getD stops k 0) (getD uses k 0)) (count 0 n)
+
+-- the number of the first of the tests 10, 11 and 12 that refuses, or 0
+abbrev pub wholeNumber : Bool → Bool → Bool → ℕ
+wholeNumber true b c = 10
+wholeNumber false true c = 11
+wholeNumber false false true = 12
+wholeNumber false false false = 0

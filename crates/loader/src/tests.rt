@@ -6,7 +6,7 @@ ghost use Prim.Native.Nat.{_+_, _-_};
 ghost use lib.Dec.{eqb, ltb};
 ghost use lib.ListN.{getD};
 ghost use Rattle.reg_matrix.specs.Lists.{any, anyPair, count};
-ghost use Rattle.loader.specs.Tests.{equalAt, memberTwice, classesDiffer, crosses, crossesAt};
+ghost use Rattle.loader.specs.Tests.{equalAt, memberTwice, classesDiffer, crosses, crossesAt, wholeNumber};
 use lent::at;
 use lent::at8;
 use lent::at16;
@@ -197,4 +197,41 @@ pub fn use_crossed(
         i += 1;
     }
     false
+}
+
+// The number of the first of the tests 10, 11 and 12 that refuses the decoded job, or 0: of rn registers, cn classes, vn virtual registers, gn
+// segments and en fixed reservations.
+pub fn whole_refusal(
+    maps: &[u64],
+    firsts: &[u16],
+    members: &[u8],
+    classes: &[u8],
+    groups: &[u16],
+    froms: &[u32],
+    tos: &[u32],
+    values: &[u16],
+    starts: &[u32],
+    stops: &[u32],
+    uses: &[u32],
+    rn: u8,
+    cn: u8,
+    vn: u16,
+    gn: usize,
+    en: usize,
+) -> u8
+    ensures { λ r. ⌜ r ≡ wholeNumber (anyPair (equalAt (now (maps .entry))) (count 0 rn) || any (memberTwice (now (firsts .entry)) (now (members .entry))) (count 0 cn)) (anyPair (classesDiffer (now (classes .entry)) (now (groups .entry))) (count 0 vn)) (any (crossesAt (now (froms .entry)) (now (tos .entry)) (now (values .entry)) (now (starts .entry)) (now (stops .entry)) (now (uses .entry)) en) (count 0 gn)) ⌝ }
+{
+    if same_map(maps, rn as usize) {
+        return 10;
+    }
+    if register_repeats(firsts, members, cn as usize) {
+        return 10;
+    }
+    if set_differs(classes, groups, vn as usize) {
+        return 11;
+    }
+    if use_crossed(froms, tos, values, gn, starts, stops, uses, en) {
+        return 12;
+    }
+    0
 }
