@@ -4,3 +4,4 @@ pub mod WholeTests
 pub mod Testing
 pub mod Reserves
 pub mod Laying
+pub mod Loads

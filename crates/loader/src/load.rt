@@ -4,10 +4,13 @@ ghost use Prim.Native.Nat.{_≤_};
 ghost use mathlib.Core.List.{[]};
 ghost use lib.ListN.{length};
 ghost use Rattle.reader.specs.Read.{FixedAt};
-ghost use Rattle.loader.specs.Loading.{testedJob, TestedOut, jobLent, Stores};
+ghost use Rattle.loader.specs.Loading.{testedJob, TestedOut, jobLent, Stores, lent, LoadDone};
 use crate::buffers::pad_lists;
 use crate::buffers::pad_regs;
 use crate::buffers::pad_virts;
+use crate::buffers::short_lists;
+use crate::buffers::short_tables;
+use crate::reserve::reserve_all;
 use crate::tests::whole_refusal;
 use job::JobHeader;
 use reader::whole::JobRead;
@@ -154,4 +157,87 @@ fn store_job(
     pad_regs(regs, cfirsts, members, h.regs, h.classes, z.class_regs);
     pad_virts(kinds, groups, spills, sizes, hfirsts, gfirsts, h.virt_regs);
     pad_lists(owners, weights, froms, tos, values, z.hints, z.segments);
+}
+
+// Loads the job of these bytes: tests the sizes lent (15), the job's length (4), its fields in byte order, and the whole (2, 10, 11, 12). What is
+// lent takes the layout of the job and of its fresh table; a refusal leaves it as it was.
+pub fn load(
+    s: &[u8],
+    regs: &mut [u64],
+    cfirsts: &mut [u16],
+    members: &mut [u8],
+    words: &mut [u64],
+    kinds: &mut [u8],
+    groups: &mut [u16],
+    spills: &mut [f32],
+    sizes: &mut [u32],
+    hfirsts: &mut [u16],
+    owners: &mut [u8],
+    weights: &mut [f32],
+    gfirsts: &mut [u16],
+    froms: &mut [u32],
+    tos: &mut [u32],
+    values: &mut [u16],
+    ends: &mut [u64],
+    rests: &mut [u64],
+) -> JobLoaded
+    ensures { λ r. ⌜ LoadDone (now (s .entry)) (lent (jobLent (now (regs .entry)) (now (cfirsts .entry)) (now (members .entry)) (now (words .entry)) (now (kinds .entry)) (now (groups .entry)) (now (spills .entry)) (now (sizes .entry)) (now (hfirsts .entry)) (now (owners .entry)) (now (weights .entry)) (now (gfirsts .entry)) (now (froms .entry)) (now (tos .entry)) (now (values .entry))) (now (ends .entry)) (now (rests .entry))) (lent (jobLent (now (regs .exit)) (now (cfirsts .exit)) (now (members .exit)) (now (words .exit)) (now (kinds .exit)) (now (groups .exit)) (now (spills .exit)) (now (sizes .exit)) (now (hfirsts .exit)) (now (owners .exit)) (now (weights .exit)) (now (gfirsts .exit)) (now (froms .exit)) (now (tos .exit)) (now (values .exit))) (now (ends .exit)) (now (rests .exit))) r ⌝ }
+{
+    let rest = short_lists(
+        hfirsts.len(),
+        owners.len(),
+        weights.len(),
+        gfirsts.len(),
+        froms.len(),
+        tos.len(),
+        values.len(),
+        ends.len(),
+        rests.len(),
+    );
+    if short_tables(
+        regs.len(),
+        cfirsts.len(),
+        members.len(),
+        words.len(),
+        kinds.len(),
+        groups.len(),
+        spills.len(),
+        sizes.len(),
+        rest,
+    ) {
+        return JobLoaded::Refused(15);
+    }
+    if 32768 < s.len() {
+        return JobLoaded::Refused(4);
+    }
+    let mut units = [0u8; 512];
+    let mut starts = [0u32; 512];
+    let mut stops = [0u32; 512];
+    let mut uses = [0u32; 512];
+    match tested(s, &mut units, &mut starts, &mut stops, &mut uses) {
+        JobTested::Refused(n) => JobLoaded::Refused(n),
+        JobTested::Is(h, z) => {
+            store_job(
+                s,
+                h,
+                z,
+                regs,
+                cfirsts,
+                members,
+                kinds,
+                groups,
+                spills,
+                sizes,
+                hfirsts,
+                owners,
+                weights,
+                gfirsts,
+                froms,
+                tos,
+                values,
+            );
+            reserve_all(ends, rests, words, &units, &starts, &stops, &uses, z.fixed);
+            JobLoaded::Is(h)
+        }
+    }
 }

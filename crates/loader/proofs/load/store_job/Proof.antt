@@ -82,23 +82,23 @@ unfolding jobBuffers
 returns c =
     record {
       laid = λ j t e d z.
-        let a = read-again _ (c .before .before .before .before .before .before .before .before .before .before .before .before .before .before .before .before .before .before .before .before .before .before .before .before .before .before .before .before .before .before .before .before .before .before .before .before .before .before .before .before .before .before .before .before .before .before .before .before .before .before .before .before .before .before .before .before .before .before .before .before .before .before .before .before .before .before .before .before .before .before .before .before .before .before .before .before .before .job-fields .ensures) e in
-        record {
-          regs = pad-numbers 0 64 (a .regs) (regs-many j d) (c .before .before .before .before .before .before .before .before .before .before .before .before .before .before .before .before .before .before .before .before .before .before .before .before .before .before .before .before .before .before .before .before .before .before .before .before .before .before .before .before .before .pad-regs .ensures .0);
-          classStarts = pad-numbers 0 17 (a .classes .starts) (starts-length length 0 (j .classes) ∙ ap (λ (n : ℕ). n + 1) (classes-many j d)) (c .before .before .before .before .before .before .before .before .before .before .before .before .before .before .before .before .before .before .before .before .before .before .before .before .before .before .before .before .before .before .before .before .before .before .before .before .before .before .before .before .before .pad-regs .ensures .1 .0);
-          classRegs = pad-numbers 0 1024 (a .classes .members) (z .classRegs) (c .before .before .before .before .before .before .before .before .before .before .before .before .before .before .before .before .before .before .before .before .before .before .before .before .before .before .before .before .before .before .before .before .before .before .before .before .before .before .before .before .before .pad-regs .ensures .1 .1);
-          classes = pad-stored 0 512 (a .virtRegs .classes) (virts-many j d) (c .before .before .before .before .before .before .before .before .before .before .before .before .before .before .before .before .before .before .before .before .before .before .before .before .before .before .before .before .pad-virts .ensures .0);
-          valueSets = pad-stored 0 512 (a .virtRegs .valueSets) (virts-many j d) (c .before .before .before .before .before .before .before .before .before .before .before .before .before .before .before .before .before .before .before .before .before .before .before .before .before .before .before .before .pad-virts .ensures .1 .0);
-          spillWeights = pad-stored zeroWeight 512 (a .virtRegs .spillWeights) (virts-many j d) (c .before .before .before .before .before .before .before .before .before .before .before .before .before .before .before .before .before .before .before .before .before .before .before .before .before .before .before .before .pad-virts .ensures .1 .1 .0);
-          sizes = pad-stored 0 512 (a .virtRegs .sizes) (virts-many j d) (c .before .before .before .before .before .before .before .before .before .before .before .before .before .before .before .before .before .before .before .before .before .before .before .before .before .before .before .before .pad-virts .ensures .1 .1 .1 .0);
-          hintStarts = pad-numbers 0 513 (a .virtRegs .hints) (starts-length (λ (v : VirtReg). length (v .hints)) 0 (j .virtRegs) ∙ ap (λ (n : ℕ). n + 1) (virts-many j d)) (c .before .before .before .before .before .before .before .before .before .before .before .before .before .before .before .before .before .before .before .before .before .before .before .before .before .before .before .before .pad-virts .ensures .1 .1 .1 .1 .0);
-          hintRegs = pad-stored 0 1024 (a .hints .regs) (z .hints) (c .before .before .before .before .before .before .before .before .before .before .pad-lists .ensures .0);
-          hintWeights = pad-stored zeroWeight 1024 (a .hints .weights) (z .hints) (c .before .before .before .before .before .before .before .before .before .before .pad-lists .ensures .1 .0);
-          segmentStarts = pad-numbers 0 513 (a .virtRegs .segments) (starts-length (λ (v : VirtReg). length (v .segments)) 0 (j .virtRegs) ∙ ap (λ (n : ℕ). n + 1) (virts-many j d)) (c .before .before .before .before .before .before .before .before .before .before .before .before .before .before .before .before .before .before .before .before .before .before .before .before .before .before .before .before .pad-virts .ensures .1 .1 .1 .1 .1);
-          froms = pad-stored 0 512 (a .segments .froms) (z .segments) (c .before .before .before .before .before .before .before .before .before .before .pad-lists .ensures .1 .1 .0);
-          tos = pad-stored 0 512 (a .segments .tos) (z .segments) (c .before .before .before .before .before .before .before .before .before .before .pad-lists .ensures .1 .1 .1 .0);
-          values = pad-stored 0 512 (a .segments .values) (z .segments) (c .before .before .before .before .before .before .before .before .before .before .pad-lists .ensures .1 .1 .1 .1);
-        };
+          let a = read-again _ (c .before .before .before .before .before .before .before .before .before .before .before .before .before .before .before .before .before .before .before .before .before .before .before .before .before .before .before .before .before .before .before .before .before .before .before .before .before .before .before .before .before .before .before .before .before .before .before .before .before .before .before .before .before .before .before .before .before .before .before .before .before .before .before .before .before .before .before .before .before .before .before .before .before .before .before .before .before .job-fields .ensures) e in
+          record {
+            regs = pad-numbers 0 64 (a .regs) (regs-many j d) (c .before .before .before .before .before .before .before .before .before .before .before .before .before .before .before .before .before .before .before .before .before .before .before .before .before .before .before .before .before .before .before .before .before .before .before .before .before .before .before .before .before .pad-regs .ensures .0);
+            classStarts = pad-numbers 0 17 (a .classes .starts) (starts-length length 0 (j .classes) ∙ ap (λ (n : ℕ). n + 1) (classes-many j d)) (c .before .before .before .before .before .before .before .before .before .before .before .before .before .before .before .before .before .before .before .before .before .before .before .before .before .before .before .before .before .before .before .before .before .before .before .before .before .before .before .before .before .pad-regs .ensures .1 .0);
+            classRegs = pad-numbers 0 1024 (a .classes .members) (z .classRegs) (c .before .before .before .before .before .before .before .before .before .before .before .before .before .before .before .before .before .before .before .before .before .before .before .before .before .before .before .before .before .before .before .before .before .before .before .before .before .before .before .before .before .pad-regs .ensures .1 .1);
+            classes = pad-stored 0 512 (a .virtRegs .classes) (virts-many j d) (c .before .before .before .before .before .before .before .before .before .before .before .before .before .before .before .before .before .before .before .before .before .before .before .before .before .before .before .before .pad-virts .ensures .0);
+            valueSets = pad-stored 0 512 (a .virtRegs .valueSets) (virts-many j d) (c .before .before .before .before .before .before .before .before .before .before .before .before .before .before .before .before .before .before .before .before .before .before .before .before .before .before .before .before .pad-virts .ensures .1 .0);
+            spillWeights = pad-stored zeroWeight 512 (a .virtRegs .spillWeights) (virts-many j d) (c .before .before .before .before .before .before .before .before .before .before .before .before .before .before .before .before .before .before .before .before .before .before .before .before .before .before .before .before .pad-virts .ensures .1 .1 .0);
+            sizes = pad-stored 0 512 (a .virtRegs .sizes) (virts-many j d) (c .before .before .before .before .before .before .before .before .before .before .before .before .before .before .before .before .before .before .before .before .before .before .before .before .before .before .before .before .pad-virts .ensures .1 .1 .1 .0);
+            hintStarts = pad-numbers 0 513 (a .virtRegs .hints) (starts-length (λ (v : VirtReg). length (v .hints)) 0 (j .virtRegs) ∙ ap (λ (n : ℕ). n + 1) (virts-many j d)) (c .before .before .before .before .before .before .before .before .before .before .before .before .before .before .before .before .before .before .before .before .before .before .before .before .before .before .before .before .pad-virts .ensures .1 .1 .1 .1 .0);
+            hintRegs = pad-stored 0 1024 (a .hints .regs) (z .hints) (c .before .before .before .before .before .before .before .before .before .before .pad-lists .ensures .0);
+            hintWeights = pad-stored zeroWeight 1024 (a .hints .weights) (z .hints) (c .before .before .before .before .before .before .before .before .before .before .pad-lists .ensures .1 .0);
+            segmentStarts = pad-numbers 0 513 (a .virtRegs .segments) (starts-length (λ (v : VirtReg). length (v .segments)) 0 (j .virtRegs) ∙ ap (λ (n : ℕ). n + 1) (virts-many j d)) (c .before .before .before .before .before .before .before .before .before .before .before .before .before .before .before .before .before .before .before .before .before .before .before .before .before .before .before .before .pad-virts .ensures .1 .1 .1 .1 .1);
+            froms = pad-stored 0 512 (a .segments .froms) (z .segments) (c .before .before .before .before .before .before .before .before .before .before .pad-lists .ensures .1 .1 .0);
+            tos = pad-stored 0 512 (a .segments .tos) (z .segments) (c .before .before .before .before .before .before .before .before .before .before .pad-lists .ensures .1 .1 .1 .0);
+            values = pad-stored 0 512 (a .segments .values) (z .segments) (c .before .before .before .before .before .before .before .before .before .before .pad-lists .ensures .1 .1 .1 .1);
+          };
     }
 
 pub store-job-spec : {M : Type 1} → statement M
