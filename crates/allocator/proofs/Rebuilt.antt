@@ -82,7 +82,7 @@ upTo-next h k o q = fun-ext (λ x. go x (but-cases (upTo h k) k o x) (upTo-cases
 -- ---- placing them, lowest number first
 
 -- the tests of a direct placement that the numbers alone decide
-limits-suffice : T (not (shortBuffer stageLimits stageLimits))
+pub limits-suffice : T (not (shortBuffer stageLimits stageLimits))
 unfolding shortBuffer
 limits-suffice = tt
 
