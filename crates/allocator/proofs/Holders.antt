@@ -9,7 +9,7 @@ use mathlib.Core.List.{List, [], _∷_, _++_, append-assoc, append-nil, List·Me
 use mathlib.Core.Option.{Option, none, some}
 use mathlib.Core.Bool.{Bool, true, false, cond}
 use lib.Dec.{T, eqb, eqb→eq, eqb-refl}
-use lib.ListN.{length}
+use lib.ListN.{length, length-append}
 use Rattle.reg_matrix.specs.Lists.{concatMap, count}
 use Rattle.reg_matrix.specs.Table.{Table, unitsOf, freshTable}
 use Rattle.reg_matrix.specs.Check.{check}
@@ -178,13 +178,13 @@ module _ (j : Job) where
           }
 
   -- the cells, split at a number
-  ahead : Holding → ℕ → List Cell
+  pub ahead : Holding → ℕ → List Cell
   ahead h v = concatMap (λ w. cellsIf j w (h w)) (count 0 v)
 
-  behind : Holding → ℕ → List Cell
+  pub behind : Holding → ℕ → List Cell
   behind h v = concatMap (λ w. cellsIf j w (h w)) (count (suc v) (length (j .virtRegs) - suc v))
 
-  split-at : (h : Holding) (v : ℕ) → IsNumber j v → cellsOf j h ≡ ahead h v ++ (cellsIf j v (h v) ++ behind h v)
+  pub split-at : (h : Holding) (v : ℕ) → IsNumber j v → cellsOf j h ≡ ahead h v ++ (cellsIf j v (h v) ++ behind h v)
   unfolding cellsOf ahead behind concatMap count
   split-at h v b =
       let q : length (j .virtRegs) ≡ v + suc (length (j .virtRegs) - suc v) = omega arith in
@@ -196,7 +196,7 @@ module _ (j : Job) where
       f : ℕ → List Cell
       f w = cellsIf j w (h w)
 
-  split-but : (h : Holding) (v : ℕ) (o : Option ℕ) → IsNumber j v → cellsOf j (but h v o) ≡ ahead h v ++ (cellsIf j v o ++ behind h v)
+  pub split-but : (h : Holding) (v : ℕ) (o : Option ℕ) → IsNumber j v → cellsOf j (but h v o) ≡ ahead h v ++ (cellsIf j v o ++ behind h v)
   unfolding ahead behind
   split-but h v o b = split-at (but h v o) v b ∙ ap₂ (λ (k l : List Cell). k ++ l) front (ap₂ (λ (k l : List Cell). k ++ l) (ap (cellsIf j v) (but-same h v o)) back)
     where
@@ -210,6 +210,18 @@ module _ (j : Job) where
       back =
           concat-same (λ w. cellsIf j w (but h v o w)) (λ w. cellsIf j w (h w)) (count (suc v) (length (j .virtRegs) - suc v))
           (λ w m. other w (λ e. omega (arith, count-out (suc v) (length (j .virtRegs) - suc v) w m .0)))
+
+  -- who holds nothing and gets the register r has its cells besides
+  pub cells-more : (h : Holding) (v r : ℕ) → IsNumber j v → h v ≡ none → length (cellsOf j (but h v (some r))) ≡ length (cells v (unitMap j r) (segmentsOf j v)) + length (cellsOf j h)
+  cells-more h v r b q =
+      let a : cellsOf j h ≡ ahead h v ++ behind h v = split-at h v b ∙ ap (λ (o : Option ℕ). ahead h v ++ (cellsIf j v o ++ behind h v)) q in
+      rw (split-but h v (some r) b, a)
+      (omega (
+        arith,
+        length-append (ahead h v) (cells v (unitMap j r) (segmentsOf j v) ++ behind h v),
+        length-append (cells v (unitMap j r) (segmentsOf j v)) (behind h v),
+        length-append (ahead h v) (behind h v),
+      ))
 
 -- ---- the table of those who hold
 

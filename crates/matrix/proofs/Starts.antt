@@ -4,7 +4,7 @@ use native.Mathlib.Numerals.{add-one}
 use native.Mathlib.Omega.{arith}
 use mathlib.Core.Path.{_≡_, refl, sym, ap, _∙_, subst}
 use mathlib.Core.Logic.{_⊎_, inl, inr}
-use mathlib.Core.List.{List, [], _∷_, List·Memᴰ·head, List·Memᴰ·tail, List·Memᴰ·cases-cons}
+use mathlib.Core.List.{List, [], _∷_, map, List·Memᴰ·head, List·Memᴰ·tail, List·Memᴰ·cases-cons}
 use mathlib.Core.Option.{Option, none, some}
 use mathlib.Core.Bool.{Bool, true, false, not, _||_, cond}
 use lib.Dec.{T, ltb, leb, eqb}
@@ -125,6 +125,21 @@ passed-ranges past (s ∷ ss) p h =
     false-is : (z : Bool) → T (not z) → z ≡ false
     false-is true t = absurd t
     false-is false t = refl
+
+-- ---- segments as three lists of numbers
+
+later-segments : (f t v : ℕ) (fs ts vs : List ℕ) (n k : ℕ) → segmentsFrom (f ∷ fs) (t ∷ ts) (v ∷ vs) (suc n) k ≡ segmentsFrom fs ts vs n k
+unfolding segmentsFrom
+later-segments f t v fs ts vs n zero = refl
+later-segments f t v fs ts vs n (suc k) = ap (λ (l : List ValueSegment). segmentAt fs ts vs n ∷ l) (later-segments f t v fs ts vs (suc n) k)
+
+-- their points and values stand for the segments
+pub segments-back : (ss : List ValueSegment) → segmentsIn (map (λ s. s .from) ss) (map (λ s. s .to) ss) (map (λ s. s .value) ss) ≡ ss
+unfolding segmentsFrom
+segments-back [] = refl
+segments-back (s ∷ ss) =
+    ap (λ (l : List ValueSegment). s ∷ l)
+    (later-segments (s .from) (s .to) (s .value) (map (λ s. s .from) ss) (map (λ s. s .to) ss) (map (λ s. s .value) ss) 0 (length (map (λ s. s .from) ss)) ∙ segments-back ss)
 
 module _ (fs ts vs : List ℕ) where
   pub segments-length : (n k : ℕ) → length (segmentsFrom fs ts vs n k) ≡ k
