@@ -29,7 +29,7 @@ use Rattle.matrix.proofs.Standing.{Stands}
 use Rattle.matrix.proofs.Lying.{AllSmall, allUses, UsesLie}
 use Rattle.matrix.proofs.Moving.{SmallCells, SmallPoints, assign-stands, evict-stands}
 
-padded-length : (n d : ℕ) (xs : List ℕ) → length xs ≤ n → length (padded n d xs) ≡ n
+pub padded-length : (n d : ℕ) (xs : List ℕ) → length xs ≤ n → length (padded n d xs) ≡ n
 unfolding padded
 padded-length n d xs h = simp (length-append, length-replicate) (omega arith)
 
