@@ -58,7 +58,7 @@ good-reached j s r =
 module _ (j : Job) (s : State) (g : Good j s) where
   -- ---- who is idle
 
-  idle-waiting : (v : ℕ) → Idle j s v → Waiting j s (g .holding) v
+  pub idle-waiting : (v : ℕ) → Idle j s v → Waiting j s (g .holding) v
   idle-waiting v i = record { known = i .known; idle = sym (g .agrees .regs v) ∙ ap regHeld (i .holds-nothing); stays = i .stays }
 
   waiting-idle : (v : ℕ) → Waiting j s (g .holding) v → Idle j s v

@@ -5,7 +5,7 @@ use native.Mathlib.Omega.{arith}
 use mathlib.Core.Path.{_≡_, refl, sym, ap, _∙_, subst}
 use mathlib.Core.Logic.{_⊎_, inl, inr}
 use mathlib.Core.Option.{none}
-use mathlib.Core.List.{List, [], _++_, List·Memᴰ·head}
+use mathlib.Core.List.{List, [], _++_}
 use mathlib.Core.Bool.{Bool, true, false}
 use lib.Dec.{T, eqb, eqb-refl}
 use lib.ListN.{length, getD}
@@ -27,7 +27,7 @@ use Rattle.reg_matrix.specs.declared.Reservation.{Reservation}
 use Rattle.reg_matrix.specs.declared.Reservation.the-variants.{Held, FixedUse, FixedDef}
 use Rattle.reg_matrix.specs.declared.Interference.{Interference}
 use Rattle.matrix.specs.declared.Move.the-variants.{Ends}
-use Rattle.reg_matrix.proofs.Members.{_∈_, unitsOf-out, fixedUses-out}
+use Rattle.reg_matrix.proofs.Members.{_∈_, fixedUses-out}
 use Rattle.reg_matrix.proofs.Cells.{Cell}
 use Rattle.reg_matrix.proofs.Chains.{Sound}
 use Rattle.reg_matrix.proofs.Apart.{entry-nonempty}
@@ -35,7 +35,7 @@ use Rattle.reg_matrix.proofs.Capacity.{OfCell}
 use Rattle.reg_matrix.proofs.Laws.{Matrix, table-size, entry-source, index-size, unit-chain}
 use Rattle.matrix.proofs.Starts.{Passed, ranges-passed}
 use Rattle.matrix.proofs.Walks.{remaining-step}
-use Rattle.matrix.proofs.UnitMaps.{no-units, units-lowest}
+use Rattle.matrix.proofs.UnitMaps.{no-units, first-unit, units-lowest}
 use Rattle.matrix.proofs.Decode.{SmallIndex, SmallReservation, Small, SmallUse}
 use Rattle.matrix.proofs.Reading.{Holds, Walkable}
 use Rattle.matrix.proofs.Lying.{AllSmall}
@@ -64,9 +64,6 @@ check-lowest :
 unfolding check concatMap
 check-lowest full fixed t m ss h l = ap (concatMap (λ u. checkOn full (fixedUses fixed u) (onUnit u t) 0 [] ss)) (units-lowest m h l)
 
-lowest-unit : (m : ℕ) → 0 < m → m < 2 ^ 64 → trailingZeros 64 m < 64
-lowest-unit m h l = unitsOf-out m (trailingZeros 64 m) (subst (λ us. trailingZeros 64 m ∈ us) (sym (units-lowest m h l)) (List·Memᴰ·head refl)) .1
-
 -- ---- the whole walk
 
 module _ (fixed : List Entry) (t : Table) (W : Lent) (L : Holds fixed t W) (P : Walkable fixed t) (full : Bool) (f : getD (W .froms) 0 0 < 2 ^ 32) (p : Passed 0 (segmentsIn (W .froms) (W .tos) (W .values))) where
@@ -86,7 +83,7 @@ module _ (fixed : List Entry) (t : Table) (W : Lent) (L : Holds fixed t W) (P : 
       z e = omega arith
 
       low : trailingZeros 64 (suc m) < 64
-      low = lowest-unit (suc m) (omega arith) l
+      low = first-unit (suc m) (omega arith) l .small
 
       next : List Interference
       next = after fixed t W L P full (suc m) z low

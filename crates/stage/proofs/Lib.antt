@@ -3,3 +3,4 @@ pub mod OrderLaws
 pub mod QueueLaws
 pub mod EvictLaws
 pub mod Reached
+pub mod ReachedMoves

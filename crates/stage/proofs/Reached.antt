@@ -15,15 +15,15 @@ use Rattle.reg_matrix.specs.Layout.{maxEntries, maxFixed, greatest, endWord, re
 use Rattle.reg_matrix.specs.declared.ValueSegment.{ValueSegment}
 use Rattle.reg_matrix.proofs.Tests.{less-equal-greater}
 use Rattle.reg_matrix.proofs.Members.{_∈_, unitsOf-out}
+use Rattle.reg_matrix.proofs.Places.{padded-length}
 use Rattle.reg_matrix.proofs.Cells.{Cell}
 use Rattle.reg_matrix.proofs.Laws.{table-size}
 use Rattle.matrix.specs.Walk.{Lent, segmentsIn}
-use Rattle.matrix.proofs.Starts.{Passed, passed-ranges, segments-back}
+use Rattle.matrix.proofs.Starts.{passed-ranges, segments-back}
 use Rattle.matrix.proofs.Reading.{Holds, Walkable}
 use Rattle.matrix.proofs.Lying.{AllSmall, allUses}
 use Rattle.matrix.proofs.Moving.{SmallCells, SmallPoints}
 use Rattle.matrix.proofs.Reserved.{uses-few}
-use Rattle.matrix.proofs.Answered.{padded-length}
 use Rattle.matrix.proofs.CheckLaw.{matrix-walkable, reached-walk}
 use Rattle.job.specs.Model.{Job, segmentsOf, unitMap}
 use Rattle.job.proofs.Premises.{IsNumber}
