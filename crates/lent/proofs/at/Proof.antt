@@ -1,8 +1,8 @@
 use mathlib.Core.Path.{sym}
 use lib.ListN.{List·getD-eq-default}
 use borrow.Author.Needs.{needs}
-use Rattle.matrix.proofs.lent.at32.Statement.{statement}
-use Rattle.matrix.proofs.lent.at32.Tie as tie
+use Rattle.lent.proofs.at.Statement.{statement}
+use Rattle.lent.proofs.at.Tie as tie
 
 mul-result : tie.Need-mul-result
 mul-result c = search needs
@@ -16,5 +16,5 @@ returns c = search needs
 returns-2 : tie.Need-returns-2
 returns-2 c = sym (List·getD-eq-default (c .before .args .s .now) 0 (c .if1 .left))
 
-pub at32-spec : {M : Type 1} → statement M
-at32-spec = tie.close (tie.spec mul-result shared-slice-read-result returns returns-2)
+pub at-spec : {M : Type 1} → statement M
+at-spec = tie.close (tie.spec mul-result shared-slice-read-result returns returns-2)

@@ -1,8 +1,8 @@
 use borrow.Author.Needs.{needs}
 use mathlib.Core.Path.{sym}
 use lib.Seq.{set-out}
-use Rattle.stage.proofs.lent.put8.Statement.{statement}
-use Rattle.stage.proofs.lent.put8.Tie as tie
+use Rattle.lent.proofs.put8.Statement.{statement}
+use Rattle.lent.proofs.put8.Tie as tie
 
 slice-write-s : tie.Need-slice-write-s
 slice-write-s c = search needs

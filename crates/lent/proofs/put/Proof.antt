@@ -1,8 +1,8 @@
 use mathlib.Core.Path.{sym}
 use lib.Seq.{set-out}
 use borrow.Author.Needs.{needs}
-use Rattle.matrix.proofs.lent.put.Statement.{statement}
-use Rattle.matrix.proofs.lent.put.Tie as tie
+use Rattle.lent.proofs.put.Statement.{statement}
+use Rattle.lent.proofs.put.Tie as tie
 
 mul-s : tie.Need-mul-s
 mul-s c = search needs

@@ -1,8 +1,8 @@
 use borrow.Author.Needs.{needs}
 use mathlib.Core.Path.{sym}
 use lib.Seq.{set-out}
-use Rattle.stage.proofs.lent.put_weight.Statement.{statement}
-use Rattle.stage.proofs.lent.put_weight.Tie as tie
+use Rattle.lent.proofs.put_float.Statement.{statement}
+use Rattle.lent.proofs.put_float.Tie as tie
 
 mul-s : tie.Need-mul-s
 mul-s c = search needs
@@ -19,5 +19,5 @@ returns c = search needs
 returns-2 : tie.Need-returns-2
 returns-2 c = sym (set-out (c .before .args .s .now) (c .before .args .i) (c .before .args .v) (c .if1 .left))
 
-pub put-weight-spec : {M : Type 1} → statement M
-put-weight-spec = tie.close (tie.spec mul-s slice-write-s same-length returns returns-2)
+pub put-float-spec : {M : Type 1} → statement M
+put-float-spec = tie.close (tie.spec mul-s slice-write-s same-length returns returns-2)
