@@ -17,4 +17,5 @@ pub mod NeverShared
 pub mod EvictOrder
 pub mod Capacity
 pub mod Good
+pub mod Records
 pub mod NotBytes

@@ -31,12 +31,13 @@ use Rattle.allocator.specs.declared.Stage.{Stage}
 use Rattle.allocator.specs.Order.{hintedOrder, order}
 use Rattle.allocator.specs.Evict.{holder, ruledOut, holders, evictees, weights, spillWeight, costOf, allowed, cheaper, Eviction, bestCost, better, tryEvict, preferred}
 use Rattle.allocator.specs.Dequeue.{Decision, leaves, evicteesOf, noneClear, byClear, isClear, byCandidates, decide}
-use Rattle.allocator.proofs.Holders.{none-some, cell-out}
-use Rattle.allocator.proofs.Agrees.{regHeld, last-named}
+use Rattle.allocator.proofs.Holders.{cell-out}
+use Rattle.allocator.proofs.Agrees.{last-named}
 use Rattle.allocator.proofs.Decisions.{Candidates, candidates-out, hinted-good, order-good, has-out}
 use Rattle.allocator.proofs.Capacity.{hinted-length}
 use Rattle.allocator.proofs.Rebuilt.{named-known}
 use Rattle.allocator.proofs.Good.{Good}
+use Rattle.allocator.proofs.Records.{held-record}
 use Rattle.stage.specs.EvictWalk.{recordWeight, noRecord, mayEvict, triedOf}
 use Rattle.stage.specs.AllocateWalk.{reportsOn, clearOn, noneOf, availableIn, noBest, taking, triedOn, improves, betterIn, evictIn, prefers, preferIn}
 use Rattle.stage.specs.declared.allocate.Best.{Best}
@@ -103,16 +104,17 @@ module _ (j : Job) (s : State) (g : Good j s) (maps : List ℕ) (rs : List Assig
   unfolding records
   record-read v h = rw (S .records-are) (from-zero (recordOf s) noRecord 512 v h)
 
-  -- who is left over holds nothing
   pub held-read : (v : ℕ) → v < 512 → recordWeight (getD rs v noRecord) ≡ weightOf (heldBy s v)
   unfolding recordOf
-  held-read v h = ap recordWeight (record-read v h) ∙ go (isLeftOver s v) refl (heldBy s v) refl
+  held-read v h = ap recordWeight (record-read v h) ∙ go (heldBy s v) refl
     where
-      go : (l : Bool) → isLeftOver s v ≡ l → (o : Option CandidateReg) → heldBy s v ≡ o → recordWeight (assignment l (flag s v) o) ≡ weightOf o
-      go true e none q = refl
-      go true e (some c) q = absurd (none-some (sym (g .agrees .left v (subst T (sym e) tt)) ∙ sym (g .agrees .regs v) ∙ ap regHeld q))
-      go false e none q = refl
-      go false e (some c) q = refl
+      nothing : (l : Bool) → recordWeight (assignment l (flag s v) none) ≡ zeroWeight
+      nothing true = refl
+      nothing false = refl
+
+      go : (o : Option CandidateReg) → heldBy s v ≡ o → recordWeight (recordOf s v) ≡ weightOf o
+      go none q = ap (λ (o : Option CandidateReg). recordWeight (assignment (isLeftOver s v) (flag s v) o)) q ∙ nothing (isLeftOver s v)
+      go (some c) q = ap recordWeight (held-record j s g v c q)
 
 -- ---- who is reported
 
