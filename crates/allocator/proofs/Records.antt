@@ -23,7 +23,11 @@ use Rattle.allocator.proofs.Agrees.{regHeld}
 use Rattle.allocator.proofs.Good.{Good, Idle}
 
 -- a list by number, where one number's place changes
-pub set-numbers : {A : Type 0} (f g : ℕ → A) (d : A) (n v : ℕ) → v < n → ((w : ℕ) → (w ≡ v → ⊥) → g w ≡ f w) → map g (count 0 n) ≡ set (map f (count 0 n)) v (g v)
+pub set-numbers :
+    {A : Type 0} (f g : ℕ → A) (d : A) (n v : ℕ)
+    → v < n
+    → ((w : ℕ) → (w ≡ v → ⊥) → g w ≡ f w)
+    → map g (count 0 n) ≡ set (map f (count 0 n)) v (g v)
 set-numbers {A} f g d n v b h =
     ext-getD d (map g (count 0 n)) (set fs v (g v)) (length-map (count 0 n) g ∙ sym (length-map (count 0 n) f) ∙ sym (length-set fs v (g v)))
     (λ i l. at-place i (omega (arith, length-map (count 0 n) g, count-length 0 n)) (ℕ-discrete i v))
@@ -86,7 +90,12 @@ module _ (j : Job) (s : State) (g : Good j s) where
 
   -- ---- what each change stores
 
-  changed-record : (t : State) (v : ℕ) (a : Assignment) → IsNumber j v → ((w : ℕ) → (w ≡ v → ⊥) → recordOf t w ≡ recordOf s w) → recordOf t v ≡ a → records t ≡ set (records s) v a
+  changed-record :
+      (t : State) (v : ℕ) (a : Assignment)
+      → IsNumber j v
+      → ((w : ℕ) → (w ≡ v → ⊥) → recordOf t w ≡ recordOf s w)
+      → recordOf t v ≡ a
+      → records t ≡ set (records s) v a
   unfolding records
   changed-record t v a b h e = set-numbers (recordOf s) (recordOf t) Dead 512 v (omega (arith, b, g .premises .few-numbers)) h ∙ ap (set (records s) v) e
 
@@ -94,12 +103,19 @@ module _ (j : Job) (s : State) (g : Good j s) where
     place : (n : ℕ) → n ≡ 512 → v < n
     place n q = omega (arith, b, g .premises .few-numbers)
 
-    pub give-records : (c : CandidateReg) (f : Bool) → T (not (isLeftOver s v)) → records (give j v c f s) ≡ set (records s) v (Assigned (f || flag s v) (c .reg) (c .«preference_weight»))
+    pub give-records :
+        (c : CandidateReg) (f : Bool)
+        → T (not (isLeftOver s v))
+        → records (give j v c f s) ≡ set (records s) v (Assigned (f || flag s v) (c .reg) (c .«preference_weight»))
     unfolding recordOf give
     give-records c f k =
         changed-record (give j v c f s) v (Assigned (f || flag s v) (c .reg) (c .«preference_weight»)) b
         (λ w n. rw (getD-set-other (s .held) v w (some c) none n, getD-set-other (s .flags) v w (f || flag s v) false n))
-        (rw (false-is (isLeftOver s v) k, getD-set-same (s .held) v (some c) none (place _ (g .agrees .sizes .held)), getD-set-same (s .flags) v (f || flag s v) false (place _ (g .agrees .sizes .flags))))
+        (rw (
+          false-is (isLeftOver s v) k,
+          getD-set-same (s .held) v (some c) none (place _ (g .agrees .sizes .held)),
+          getD-set-same (s .flags) v (f || flag s v) false (place _ (g .agrees .sizes .flags)),
+        ))
 
     pub lose-records : (r : ℕ) → T (not (isLeftOver s v)) → records (lose j v r s) ≡ set (records s) v (Unassigned (flag s v))
     unfolding recordOf lose
@@ -124,7 +140,8 @@ module _ (j : Job) (s : State) (g : Good j s) where
     pub give-last : (c : CandidateReg) (f : Bool) → lastWords (give j v c f s) ≡ set (lastWords s) (virtReg j v .valueSet) (c .reg + 1)
     unfolding lastWords give
     give-last c f =
-        set-numbers (λ t. lastWord (getD (s .last) t none)) (λ t. lastWord (getD (set (s .last) (virtReg j v .valueSet) (some (c .reg))) t none)) 0 512 (virtReg j v .valueSet) (g .premises .small-sets v b)
+        set-numbers (λ t. lastWord (getD (s .last) t none)) (λ t. lastWord (getD (set (s .last) (virtReg j v .valueSet) (some (c .reg))) t none)) 0 512
+        (virtReg j v .valueSet) (g .premises .small-sets v b)
         (λ t n. ap lastWord (getD-set-other (s .last) (virtReg j v .valueSet) t (some (c .reg)) none n))
         ∙ ap (λ (o : Option ℕ). set (lastWords s) (virtReg j v .valueSet) (lastWord o))
         (getD-set-same (s .last) (virtReg j v .valueSet) (some (c .reg)) none (omega (arith, g .premises .small-sets v b, g .agrees .sizes .last)))

@@ -67,7 +67,9 @@ module _ (j : Job) (s : State) (g : Good j s) where
 
   -- a check walks over it
   pub walkable : Walkable (j .fixed) (s .table)
-  walkable = matrix-walkable (j .fixed) (g .premises .sound) heldCells (s .table) (g .agrees .table) (g .premises .few-fixed) cells-fit small-fixed small-held small-holders
+  walkable =
+      matrix-walkable (j .fixed) (g .premises .sound) heldCells (s .table) (g .agrees .table) (g .premises .few-fixed) cells-fit small-fixed small-held
+      small-holders
 
   -- a register's map of units is one of 64 bits, and an unknown register's is empty
   pub small-map : (r : ℕ) → unitMap j r < 2 ^ 64
@@ -118,10 +120,13 @@ module _ (j : Job) (s : State) (g : Good j s) (W : Lent) (et rt ut : List ℕ)
   holds : Holds (j .fixed) (s .table) W
   unfolding endWords restWords useWords
   holds =
+      let ends-long = padded-length maxEntries greatest (map endWord (s .table)) (simp length-map (entries-fit j s g)) in
+      let rests-long = padded-length maxEntries 0 (map restWord (s .table)) (simp length-map (entries-fit j s g)) in
+      let uses-long = padded-length maxFixed greatest (map useWord (allUses (j .fixed))) (simp length-map (uses-fit j s g)) in
       record {
-        ends = rw ends (take-at (endWords (s .table)) et maxEntries (padded-length maxEntries greatest (map endWord (s .table)) (simp length-map (entries-fit j s g))));
-        rests = rw rests (take-at (restWords (s .table)) rt maxEntries (padded-length maxEntries 0 (map restWord (s .table)) (simp length-map (entries-fit j s g))));
-        uses = rw uses (take-at (useWords (j .fixed)) ut maxFixed (padded-length maxFixed greatest (map useWord (allUses (j .fixed))) (simp length-map (uses-fit j s g))));
+        ends = rw ends (take-at (endWords (s .table)) et maxEntries ends-long);
+        rests = rw rests (take-at (restWords (s .table)) rt maxEntries rests-long);
+        uses = rw uses (take-at (useWords (j .fixed)) ut maxFixed uses-long);
       }
 
   -- a check asked of any segments that no test refuses, in either form: the walk over what is lent reports what the check lists
@@ -129,13 +134,22 @@ module _ (j : Job) (s : State) (g : Good j s) (W : Lent) (et rt ut : List ℕ)
       (full : Bool) (r : ℕ)
       → getD (W .froms) 0 0 < 2 ^ 32
       → rangesRefusal 0 (segmentsIn (W .froms) (W .tos) (W .values)) ≡ none
-      → remaining W (entered (W .ends) (W .froms) (unitMap j r) full) ≡ check full (j .fixed) (s .table) (unitMap j r) (segmentsIn (W .froms) (W .tos) (W .values))
+      → remaining W (entered (W .ends) (W .froms) (unitMap j r) full)
+      ≡ check full (j .fixed) (s .table) (unitMap j r) (segmentsIn (W .froms) (W .tos) (W .values))
   asked-reports full r f q =
-      reached-walk (j .fixed) (g .premises .sound) (heldCells j s g) (s .table) (g .agrees .table) (g .premises .few-fixed) (cells-fit j s g) (small-fixed j s g)
-      (small-held j s g) (small-holders j s g) W holds full (unitMap j r) (small-map j s g r) f q
+      reached-walk (j .fixed) (g .premises .sound) (heldCells j s g) (s .table) (g .agrees .table) (g .premises .few-fixed) (cells-fit j s g)
+      (small-fixed j s g) (small-held j s g) (small-holders j s g) W holds full (unitMap j r) (small-map j s g r) f q
 
 -- the walk over what is lent reports what the check of v's segments lists
-pub reports-are : (j : Job) (s : State) → Good j s → (v : ℕ) → IsNumber j v → (W : Lent) → LaidOut j s v W → (r : ℕ) → reportsOn W (unitMap j r) ≡ checkOf j s v r
+pub reports-are :
+    (j : Job) (s : State)
+    → Good j s
+    → (v : ℕ)
+    → IsNumber j v
+    → (W : Lent)
+    → LaidOut j s v W
+    → (r : ℕ)
+    → reportsOn W (unitMap j r) ≡ checkOf j s v r
 unfolding reportsOn checkOf
 reports-are j s g v b W L r =
     asked-reports j s g W (L .ends-behind) (L .rests-behind) (L .uses-behind) (L .ends) (L .rests) (L .uses) false r

@@ -45,7 +45,13 @@ module _ (j : Job) (s : State) (g : Good j s) where
   uses-lie us ut p = record { few = uses-fit j s g; are = p }
 
   -- the spare question on the slices is the question on the table
-  pub spare-found : (et rt : List ℕ) (w : Words) → Stands (s .table) et rt w → (u from to : ℕ) → u < 64 → from < 2 ^ 32 → freeAt u from to w ≡ isUnitFree (s .table) u (range from to)
+  pub spare-found :
+      (et rt : List ℕ) (w : Words)
+      → Stands (s .table) et rt w
+      → (u from to : ℕ)
+      → u < 64
+      → from < 2 ^ 32
+      → freeAt u from to w ≡ isUnitFree (s .table) u (range from to)
   spare-found et rt w st u from to a b =
       let k = walkable j s g in
       free-stands (s .table) et rt w st (k .sorted) (λ e m. record { unit = k .small e m .unit; to = k .small e m .to })
@@ -64,7 +70,8 @@ module _ (j : Job) (s : State) (g : Good j s) where
         → Carried (give j v c f s .table) et rt w′ r
     unfolding give checkOf
     assign-gives starts i k z a f =
-        assigned (j .fixed) ut uses lie et rt (s .table) w st (g .premises .sound) (small-fixed j s g) v (unitMap j (c .reg)) (omega (arith, i .known, g .premises .few-numbers))
+        assigned (j .fixed) ut uses lie et rt (s .table) w st (g .premises .sound) (small-fixed j s g) v (unitMap j (c .reg))
+        (omega (arith, i .known, g .premises .few-numbers))
         (segmentsOf j v) w′ r
         (subst (λ (l : List ℕ). Assigned v (unitMap j (c .reg)) uses (map (λ x. x .from) (segmentsOf j v)) l w w′ r) ends
         (subst (λ (l : List ℕ). Assigned v (unitMap j (c .reg)) uses l ts w w′ r) starts (subst (λ (n : ℕ). Assigned v n uses fs ts w w′ r) units a)))
@@ -84,7 +91,8 @@ module _ (j : Job) (s : State) (g : Good j s) where
     pub evict-loses : heldBy s v ≡ some c → Evicted v m uses ts w w′ r → Carried (lose j v (c .reg) s .table) et rt w′ r
     unfolding lose
     evict-loses e a =
-        evicted (j .fixed) ut uses lie et rt (s .table) w st (g .premises .sound) (small-fixed j s g) v (unitMap j (c .reg)) (omega (arith, known, g .premises .few-numbers))
+        evicted (j .fixed) ut uses lie et rt (s .table) w st (g .premises .sound) (small-fixed j s g) v (unitMap j (c .reg))
+        (omega (arith, known, g .premises .few-numbers))
         (segmentsOf j v) w′ r
         (subst (λ (l : List ℕ). Evicted v (unitMap j (c .reg)) uses l w w′ r) ends (subst (λ (n : ℕ). Evicted v n uses ts w w′ r) units a))
         (ahead j (g .holding) v) (behind j (g .holding) v)
@@ -118,7 +126,11 @@ module _ (j : Job) (marks : List Bool) (i : ℕ) (s : State) where
   abbrev pub evictMarked : ℕ → State → State
   evictMarked k t = evictAll j (filter (λ w. getD marks w false) (count k (512 - k))) t
 
-  marked-here : i < 512 → (b : Bool) → getD marks i false ≡ b → evictMarked i s ≡ evictAll j (keep b i (filter (λ w. getD marks w false) (count (i + 1) (512 - (i + 1))))) s
+  marked-here :
+      i < 512
+      → (b : Bool)
+      → getD marks i false ≡ b
+      → evictMarked i s ≡ evictAll j (keep b i (filter (λ w. getD marks w false) (count (i + 1) (512 - (i + 1))))) s
   unfolding filter count
   marked-here h b q =
       let e : 512 - i ≡ suc (512 - (i + 1)) = omega arith in
