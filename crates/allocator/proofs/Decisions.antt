@@ -9,19 +9,18 @@ use mathlib.Core.Bool.{Bool, true, false, not, _&&_, _||_, cond}
 use lib.Dec.{T, eqb, eqb→eq, eqb-refl, T-not}
 use lib.Ieee.{binary32, lt}
 use lib.ListN.{length}
-use Rattle.reg_matrix.specs.Lists.{any, first, orElse, has, foldl, isNil}
+use Rattle.reg_matrix.specs.Lists.{any, first, orElse, putBefore, insertBy, has, foldl, isNil}
 use Rattle.reg_matrix.specs.declared.Interference.{Interference}
 use Rattle.reg_matrix.specs.declared.InterferenceKind.{InterferenceKind}
 use Rattle.reg_matrix.specs.declared.InterferenceKind.the-variants.{Fixed, VirtReg}
 use Rattle.reg_matrix.proofs.Tests.{both, both-in, or-left, or-right, eqb-in}
-use Rattle.reg_matrix.proofs.Members.{_∈_, filter-out, filter-in, any-in, concat-in, count-in}
+use Rattle.reg_matrix.proofs.Members.{_∈_, filter-out, filter-in, any-in, getD-in, concat-in, count-in}
 use Rattle.job.specs.declared.Hint.{Hint}
 use Rattle.job.specs.Model as model
 use Rattle.job.specs.Model.{Job, virtReg, noVirtReg, classOf, zeroWeight}
 use Rattle.job.proofs.Premises.{Premises, IsNumber, Plain}
-use Rattle.job.proofs.Lists.{getD-in}
 use Rattle.allocator.specs.State.{State, CandidateReg, Stage, Evict, Split, flag, lastGiven, checkOf}
-use Rattle.allocator.specs.Order.{candidate, grow, addHint, putBefore, byWeight, hasReg, orLast, hintedOrder, order, highestPreference}
+use Rattle.allocator.specs.Order.{candidate, grow, addHint, byWeight, hasReg, orLast, hintedOrder, order, highestPreference}
 use Rattle.allocator.specs.Evict.{isFixed, holder, ruledOut, holders, evictees, weights, spillWeight, costOf, allowed, cheaper, Eviction, bestCost, better, tryEvict, preferred}
 use Rattle.allocator.specs.Dequeue.{Decision, leaves, takes, splits, fails, isInfinite, evicteesOf, byEviction, noneClear, orPreferred, byClear, isClear, byCandidates, decide}
 use Rattle.allocator.specs.Calls.{named}
@@ -128,7 +127,7 @@ module _ (j : Job) (v : ℕ) where
       go false ih = (a .0, ih)
 
   insert-good : (cs : List CandidateReg) (c : CandidateReg) → Candidates cs → Candidate j v c → Candidates (byWeight cs c)
-  unfolding byWeight
+  unfolding byWeight insertBy
   insert-good [] c a g = (g, tt)
   insert-good (d ∷ ds) c a g = go (lt (d .«preference_weight») (c .«preference_weight»)) (insert-good ds c (a .1) g)
     where

@@ -5,7 +5,7 @@ use native.Mathlib.Omega.{arith}
 use native.Mathlib.Nat.{zero-add, add-zero, suc-add, add-suc}
 use mathlib.Core.Path.{_≡_, refl, sym, ap, ap₂, _∙_, subst}
 use mathlib.Core.Logic.{_⊎_, inl, inr, ⊎-swap}
-use mathlib.Core.List.{List, [], _∷_, _++_, append-assoc, append-nil, List·Memᴰ·head, List·Memᴰ·tail, List·Memᴰ·cases-cons, Memᴰ·append-left, Memᴰ·append-right}
+use mathlib.Core.List.{List, [], _∷_, _++_, append-nil, List·Memᴰ·head, List·Memᴰ·tail, List·Memᴰ·cases-cons, Memᴰ·append-left, Memᴰ·append-right}
 use mathlib.Core.Option.{Option, none, some}
 use mathlib.Core.Bool.{Bool, true, false, cond}
 use lib.Dec.{T, eqb, eqb→eq, eqb-refl}
@@ -15,7 +15,7 @@ use Rattle.reg_matrix.specs.Table.{Table, unitsOf, freshTable}
 use Rattle.reg_matrix.specs.Check.{check}
 use Rattle.reg_matrix.specs.Assign.{assign, evict}
 use Rattle.reg_matrix.specs.declared.Entry.{Entry}
-use Rattle.reg_matrix.proofs.Members.{_∈_, concat-in, concat-out, concat-none, count-in, count-out}
+use Rattle.reg_matrix.proofs.Members.{_∈_, concat-in, concat-out, concat-none, concat-append, concat-same, count-in, count-out}
 use Rattle.reg_matrix.proofs.Cells.{Disjoint, Cell, Free, Among, is-among, free-among}
 use Rattle.reg_matrix.proofs.Whole.{cellOf, cells, cellsOn-out, cellsOn-in, AllFree, Joins, joins-middle, middle-first}
 use Rattle.reg_matrix.proofs.Laws.{Matrix, fresh-table, assign-adds, evict-takes}
@@ -70,17 +70,6 @@ but-other h w o v n = go (but-cases h w o v)
     go (inr k) = k .1
 
 -- ---- lists
-
-module _ {A B : Type 0} where
-  concat-append : (f : A → List B) (xs ys : List A) → concatMap f (xs ++ ys) ≡ concatMap f xs ++ concatMap f ys
-  unfolding concatMap
-  concat-append f [] ys = refl
-  concat-append f (x ∷ xs) ys = ap (λ (l : List B). f x ++ l) (concat-append f xs ys) ∙ sym (append-assoc (f x) (concatMap f xs) (concatMap f ys))
-
-  concat-same : (f g : A → List B) (xs : List A) → ((x : A) → x ∈ xs → f x ≡ g x) → concatMap f xs ≡ concatMap g xs
-  unfolding concatMap
-  concat-same f g [] h = refl
-  concat-same f g (x ∷ xs) h = ap₂ (λ (k l : List B). k ++ l) (h x (List·Memᴰ·head refl)) (concat-same f g xs (λ y m. h y (List·Memᴰ·tail m)))
 
 count-append : (i m n : ℕ) → count i (m + n) ≡ count i m ++ count (i + m) n
 unfolding count

@@ -13,7 +13,7 @@ use Rattle.job.specs.Model.{Job, virtReg, classOf}
 use Rattle.job.specs.Load.{Loaded, loadWith}
 use Rattle.allocator.specs.State.{State, CandidateReg, freshState, heldBy, isUnassigned, checkOf, give, evictNumber}
 use Rattle.allocator.specs.Order.{candidate}
-use Rattle.allocator.specs.Run.{Ending, Ran, run}
+use Rattle.allocator.specs.Run.{Ending, run}
 use Rattle.allocator.specs.Layout.{stageLimits}
 
 -- loading a stage: it is lent all that calls are lent

@@ -11,7 +11,7 @@ use Rattle.job.specs.Model.{Job, zeroWeight}
 use Rattle.job.specs.Load.{Bytes, loaded}
 use Rattle.allocator.specs.State.{freshState}
 use Rattle.allocator.specs.Layout.{stageLimits}
-use Rattle.allocator.specs.Calls.{load, Call, placing, Answer, placed, answers, afterAll}
+use Rattle.allocator.specs.Calls.{load, Call, placing, placed, answers, afterAll}
 use Rattle.allocator.specs.Holding.{holds}
 
 -- a number and the register that it holds

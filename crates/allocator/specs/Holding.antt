@@ -8,7 +8,6 @@ use lib.Dec.{eqb}
 use Rattle.reg_matrix.specs.Lists.{foldl}
 use Rattle.job.specs.Model.{Job}
 use Rattle.allocator.specs.State.{State, freshState}
-use Rattle.allocator.specs.Queue.{Queued}
 use Rattle.allocator.specs.Dequeue.{Step, goesOn, tooMany, Decision, leaves, takes, splits, fails, decide, dequeue}
 use Rattle.allocator.specs.Run.{nextOf}
 use Rattle.allocator.specs.Calls.{Call, placing, evicting, running, refusalOf, unlessRefused, after}

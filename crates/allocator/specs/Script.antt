@@ -7,12 +7,12 @@ use mathlib.Core.Bool.{Bool, true, false, cond}
 use lib.Dec.{ltb, eqb}
 use lib.Ieee.{binary32, ofBits, toBits}
 use lib.ListN.{length, take, drop}
-use Rattle.reg_matrix.specs.Lists.{ascii, concatMap, count}
+use Rattle.reg_matrix.specs.Lists.{ascii, insertBy, concatMap, count}
 use Rattle.reg_matrix.specs.Lines.{number, sp, line, refusedLine, tableLines, reportLine}
 use Rattle.reg_matrix.specs.Questions.{Checked, notChecked, checked, checkLimits, askCheck, Spared, notAsked, isSpare, tableLimits, askSpare}
 use Rattle.reg_matrix.specs.declared.ValueSegment.{ValueSegment}
 use Rattle.job.specs.Model.{Job}
-use Rattle.job.specs.Parser.{Parsed, refused, parsed, Parser, andThen, _>>=_, _>>_, done, each, refuse, little}
+use Rattle.job.specs.Parser.{Parsed, refused, parsed, Parser, _>>=_, _>>_, done, each, little}
 use Rattle.job.specs.Load.{Loaded, notLoaded, loaded}
 use Rattle.allocator.specs.State.{State, Stage, Assignment, Assigned, Unassigned, Dead, recordOf, freshState}
 use Rattle.allocator.specs.Queue.{encode}
@@ -94,14 +94,9 @@ recordText Dead = ascii " dead"
 abbrev pub recordLine : State → ℕ → List ℕ
 recordLine s v = line (ascii "s " ++ number v ++ recordText (recordOf s v))
 
-abbrev pub putBefore : Bool → ℕ → ℕ → List ℕ → List ℕ → List ℕ
-putBefore true k x xs r = k ∷ x ∷ xs
-putBefore false k x xs r = x ∷ r
-
 -- greatest first
 unfoldable pub insertKey : List ℕ → ℕ → List ℕ
-insertKey [] k = k ∷ []
-insertKey (x ∷ xs) k = putBefore (ltb x k) k x xs (insertKey xs k)
+insertKey ks k = insertBy (λ k x. ltb x k) k ks
 
 abbrev pub keyBefore : Job → ℕ → Option Stage → List ℕ → List ℕ
 keyBefore j v none ks = ks

@@ -1,6 +1,6 @@
 -- The printed sheet, as bytes (document 01, "The printed sheet"). Assumes nothing.
 use Prim.Native.Nat.{ℕ}
-use mathlib.Core.List.{List, [], _∷_, _++_}
+use mathlib.Core.List.{List, [], _++_}
 use mathlib.Core.Option.{Option, none, some}
 use lib.ListN.{length}
 use Rattle.reg_matrix.specs.Lists.{ascii, concatMap, filter, any, bit, count}

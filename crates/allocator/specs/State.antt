@@ -1,7 +1,7 @@
 -- What the rules keep: the table, who holds which register, who is left over, flags, queue stages, last registers; and the records derived from
 -- it (document 01, "Where the Rust's forms give way": `Assignment`). Assumes nothing.
 use Prim.Native.Nat.{ℕ}
-use mathlib.Core.List.{List, [], _∷_, map}
+use mathlib.Core.List.{List, map}
 use mathlib.Core.Option.{Option, none, some}
 use mathlib.Core.Bool.{Bool, true, false, not, _&&_, _||_}
 use lib.Ieee.{Float}

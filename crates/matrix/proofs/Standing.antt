@@ -11,8 +11,8 @@ use lib.Dec.{T, ltb, ltb→lt, lt→ltb}
 use lib.ListN.{length, take, drop, replicate, length-append, length-map, length-replicate, length-take, length-drop}
 use lib.Seq.{take-at, take-nil, drop-nil}
 use borrow.Author.Tests.{lt-ltb, le-ltb, ltb-true, ltb-false}
-use Rattle.reg_matrix.specs.Lists.{keep, filter, padded}
-use Rattle.reg_matrix.specs.Table.{Table, before, putBefore, insert}
+use Rattle.reg_matrix.specs.Lists.{keep, filter, putBefore, insertBy, padded}
+use Rattle.reg_matrix.specs.Table.{Table, before, insert}
 use Rattle.reg_matrix.specs.Layout.{maxEntries, greatest, endWord, restWord, endWords, restWords}
 use Rattle.matrix.specs.Search.{placeOf, Rises, below}
 use Rattle.matrix.specs.Moves.{Words, entries, inserted, removed, inserting, removing, removingRun}
@@ -159,7 +159,7 @@ pub place-within : (key : ℕ) (t : Table) → below key (map endWord t) ≤ len
 place-within key t = let l = length-map t endWord in omega (arith, below-length key (map endWord t), l)
 
 pub insert-place : (e : Entry) (t : Table) → Sorted t → SmallEnd e → SmallEnds t → insert e t ≡ take (below (endWord e + 1) (map endWord t)) t ++ e ∷ drop (below (endWord e + 1) (map endWord t)) t
-unfolding insert
+unfolding insert insertBy
 insert-place e [] so se sm = rw (take-nil (below (endWord e + 1) []), drop-nil (below (endWord e + 1) []))
 insert-place e (x ∷ t) so se sm = go (ltb (endWord e) (endWord x)) refl (insert-place e t (so .1) se (λ y m. sm y (List·Memᴰ·tail m)))
   where
@@ -189,7 +189,7 @@ insert-place e (x ∷ t) so se sm = go (ltb (endWord e) (endWord x)) refl (inser
         rw (before-word e x se sx, h, z, ih)
 
 pub insert-length : (e : Entry) (t : Table) → length (insert e t) ≡ suc (length t)
-unfolding insert
+unfolding insert insertBy
 insert-length e [] = refl
 insert-length e (x ∷ t) = go (before e x) (insert-length e t)
   where

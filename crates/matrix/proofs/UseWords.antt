@@ -14,17 +14,12 @@ use Rattle.reg_matrix.specs.Table.{fixedUses}
 use Rattle.reg_matrix.specs.Layout.{maxFixed, greatest, useWord, useWords}
 use Rattle.matrix.specs.Search.{placeOf, Rises, below}
 use Rattle.reg_matrix.specs.declared.Entry.{Entry}
-use Rattle.reg_matrix.proofs.Members.{_∈_, concat-out, count-out, fixedUses-out}
+use Rattle.reg_matrix.proofs.Members.{_∈_, concat-out, concat-append, count-out, fixedUses-out}
 use Rattle.reg_matrix.proofs.Chains.{Chain}
 use Rattle.matrix.proofs.Halves.{none-below, below-cons, place-searched}
 use Rattle.matrix.proofs.Decode.{SmallUse, rises-append, replicate-in, replicate-rises, map-out, uses-below}
 
 -- ---- lists
-
-pub concat-append : {A B : Type 0} (f : A → List B) (xs ys : List A) → concatMap f (xs ++ ys) ≡ concatMap f xs ++ concatMap f ys
-unfolding concatMap
-concat-append f [] ys = refl
-concat-append f (x ∷ xs) ys = ap (λ l. f x ++ l) (concat-append f xs ys) ∙ sym (append-assoc (f x) (concatMap f xs) (concatMap f ys))
 
 concat-cons : {A B : Type 0} (f : A → List B) (x : A) (xs : List A) → concatMap f (x ∷ xs) ≡ f x ++ concatMap f xs
 unfolding concatMap

@@ -1,9 +1,9 @@
 -- Placing and evicting (document 01, "Placing", "Evicting"; `RegMatrix::assign`, `evict`). `fixed` is the job's list of fixed reservations, v a
 -- virtual register, m a register's map of units. Assumes nothing.
 use Prim.Native.Nat.{ℕ}
-use mathlib.Core.List.{List, [], _∷_}
+use mathlib.Core.List.{List, []}
 use mathlib.Core.Option.{Option, none, some}
-use mathlib.Core.Bool.{Bool, true, false, not, _&&_, cond}
+use mathlib.Core.Bool.{Bool, false, not, _&&_, cond}
 use lib.Dec.{ltb, leb, eqb}
 use lib.ListN.{length, drop}
 use Rattle.reg_matrix.specs.Lists.{filter, any, first, foldl}

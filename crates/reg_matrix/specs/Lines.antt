@@ -2,7 +2,7 @@
 -- docs/SCRIPT.md). Assumes nothing.
 use Prim.Native.Nat.{ℕ, zero, suc, _+_, _/_, _%_}
 use mathlib.Core.List.{List, [], _∷_, _++_}
-use mathlib.Core.Bool.{Bool, true, false, cond}
+use mathlib.Core.Bool.{cond}
 use lib.Dec.{ltb}
 use Rattle.reg_matrix.specs.Lists.{ascii, concatMap}
 use Rattle.reg_matrix.specs.Table.{Table}

@@ -48,6 +48,15 @@ module _ {ℓ} {A : Type ℓ} where
   anyPair p [] = false
   anyPair p (x ∷ xs) = any (p x) xs || anyPair p xs
 
+  abbrev pub putBefore : Bool → A → A → List A → List A → List A
+  putBefore true e x xs r = e ∷ x ∷ xs
+  putBefore false e x xs r = x ∷ r
+
+  -- e put before the first element that it goes before: after all its equals
+  unfoldable pub insertBy : (A → A → Bool) → A → List A → List A
+  insertBy before e [] = e ∷ []
+  insertBy before e (x ∷ xs) = putBefore (before e x) e x xs (insertBy before e xs)
+
   -- the list, and d after it up to n places
   unfoldable pub padded : ℕ → A → List A → List A
   padded n d xs = xs ++ replicate (n - length xs) d

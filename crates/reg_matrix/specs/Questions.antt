@@ -4,7 +4,7 @@
 use Prim.Native.Nat.{ℕ}
 use mathlib.Core.List.{List, [], _∷_, _++_}
 use mathlib.Core.Option.{Option, none, some}
-use mathlib.Core.Bool.{Bool, true, false}
+use mathlib.Core.Bool.{Bool, true}
 use lib.Dec.{ltb, leb}
 use lib.ListN.{length, getD}
 use Rattle.reg_matrix.specs.Lists.{first, isNil}
