@@ -44,5 +44,8 @@ pub record TablesAreHolders (j : Job) : Type 0 where
   pub by-lines : (cs ds : List Call) → (tableLines (afterAll j cs .table) ≡ tableLines (afterAll j ds .table)) ↔ ((v : ℕ) → holds j cs v ≡ holds j ds v)
 
 -- of every byte string that loads, whatever was lent
+abbrev pub OfLoaded : (Job → Type 0) → Type 0
+OfLoaded P = (lent bytes : List ℕ) (j : Job) → Bytes bytes → load lent bytes ≡ loaded j → P j
+
 abbrev pub Demand3 : Type 0
-Demand3 = (lent bytes : List ℕ) (j : Job) → Bytes bytes → load lent bytes ≡ loaded j → TablesAreHolders j
+Demand3 = OfLoaded TablesAreHolders

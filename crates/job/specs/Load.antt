@@ -1,9 +1,9 @@
 -- The job, from bytes to what it holds or to the number of the refusal (document 01, "The job", "Order", "Limits"). In each field the tests stand
 -- with the lowest number first. Assumes nothing.
 use Prim.Native.Nat.{ℕ, _+_, _^_, _<_}
-use mathlib.Core.List.{List, [], _∷_}
-use mathlib.Core.Option.{Option, none, some}
-use mathlib.Core.Bool.{Bool, true, false, not, _&&_, _||_, cond, Bool·beq}
+use mathlib.Core.List.{List, []}
+use mathlib.Core.Option.{none, some}
+use mathlib.Core.Bool.{Bool, false, not, _&&_, _||_, cond, Bool·beq}
 use lib.Dec.{ltb, leb, eqb}
 use lib.Count.{onesIn}
 use lib.Ieee.{binary32, ofBits, nanBits}

@@ -1,8 +1,10 @@
 -- What a job holds (document 01, "The job"). Assumes nothing.
 use Prim.Native.Nat.{ℕ}
+use mathlib.Core.Path.{_≡_}
 use mathlib.Core.List.{List, []}
 use mathlib.Core.Option.{Option}
-use lib.Ieee.{Float, binary32, ofBits}
+use mathlib.Core.Bool.{false}
+use lib.Ieee.{Float, nan, inf, fin, binary32, ofBits}
 use lib.ListN.{getD}
 use Rattle.reg_matrix.specs.declared.ValueSegment.{ValueSegment}
 use Rattle.reg_matrix.specs.declared.Entry.{Entry}
@@ -28,6 +30,12 @@ pub record Job : Type 0 where
 
 abbrev pub zeroWeight : Float
 zeroWeight = ofBits binary32 0
+
+-- 01, "What the stage answers", 9, of a weight that passed: no NaN, and no sign
+abbrev pub Plain : Float → Type 0
+Plain nan = ⊥
+Plain (inf n) = n ≡ false
+Plain (fin n m e) = n ≡ false
 
 abbrev pub noVirtReg : VirtReg
 noVirtReg = record { class = 0; valueSet = 0; spillWeight = zeroWeight; size = 0; hints = []; segments = [] }

@@ -5,20 +5,17 @@ use native.Mathlib.Omega.{arith}
 use mathlib.Core.Path.{_≡_, refl, sym, ap, ap₂, _∙_, subst}
 use mathlib.Core.Logic.{_⊎_, inl, inr}
 use mathlib.Core.Option.{some}
-use mathlib.Core.List.{List, [], _∷_, _++_, append-assoc, List·Memᴰ, List·Memᴰ·head, List·Memᴰ·tail, List·Memᴰ·cases-cons, Memᴰ·append-left, Memᴰ·append-right, List·Memᴰ·append-cases}
+use mathlib.Core.List.{List, [], _∷_, _++_, append-assoc, List·Memᴰ·head, List·Memᴰ·tail, List·Memᴰ·cases-cons, Memᴰ·append-left, Memᴰ·append-right, List·Memᴰ·append-cases}
 use mathlib.Core.Bool.{Bool, true, false, _&&_, _||_}
 use lib.Dec.{T, eqb, eqb→eq}
 use lib.ListN.{length, getD, drop}
 use Rattle.reg_matrix.specs.Lists.{keep, filter, any, first, orElse, concatMap, count, bit}
+pub use Rattle.reg_matrix.specs.Lists.{_∈_}
 use Rattle.reg_matrix.specs.Table.{Table, unitsOf, isUse, fixedUses, onUnit}
 use Rattle.reg_matrix.specs.declared.Entry.{Entry}
 use Rattle.reg_matrix.proofs.Tests.{both, both-in, or-left, or-right, eqb-in, less-equal-greater}
 
 module _ {A : Type 0} where
-  infix 50 _∈_
-  abbrev pub _∈_ : A → List A → Type 0
-  e ∈ xs = List·Memᴰ e xs
-
   -- ---- filter
 
   keep-out : {e x : A} {xs : List A} (b : Bool) → e ∈ keep b x xs → (T b × (e ≡ x)) ⊎ (e ∈ xs)

@@ -2,7 +2,7 @@
 use Prim.Native.Nat.{ℕ, zero, suc, _-_, _/_, _%_, _^_}
 use Prim.Native.String.{String, [] as []ˢ, _∷_ as _∷ˢ_}
 use Prim.Native.Char.{code}
-use mathlib.Core.List.{List, [], _∷_, _++_}
+use mathlib.Core.List.{List, [], _∷_, _++_, List·Memᴰ}
 use mathlib.Core.Option.{Option, none, some}
 use mathlib.Core.Bool.{Bool, true, false, _&&_, _||_}
 use lib.Dec.{eqb}
@@ -60,6 +60,12 @@ module _ {ℓ} {A : Type ℓ} where
   -- the list, and d after it up to n places
   unfoldable pub padded : ℕ → A → List A → List A
   padded n d xs = xs ++ replicate (n - length xs) d
+
+-- e is among them
+module _ {A : Type 0} where
+  infix 50 _∈_
+  abbrev pub _∈_ : A → List A → Type 0
+  e ∈ xs = List·Memᴰ e xs
 
 module _ {ℓ κ} {A : Type ℓ} {B : Type κ} where
   unfoldable pub concatMap : (A → List B) → List A → List B
