@@ -17,3 +17,4 @@ pub mod NeverShared
 pub mod EvictOrder
 pub mod Capacity
 pub mod NotBytes
+pub mod TestsNeeded
