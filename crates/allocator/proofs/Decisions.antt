@@ -126,12 +126,13 @@ module _ (j : Job) (v : ℕ) where
       go true ih = (record { names = a .0 .names; plain = plain-add binary32 (c .«preference_weight») (h .weight) (a .0 .plain) (g .plain) }, a .1)
       go false ih = (a .0, ih)
 
-  insert-good : (cs : List CandidateReg) (c : CandidateReg) → Candidates cs → Candidate j v c → Candidates (byWeight cs c)
-  unfolding byWeight insertBy
-  insert-good [] c a g = (g, tt)
-  insert-good (d ∷ ds) c a g = go (lt (d .«preference_weight») (c .«preference_weight»)) (insert-good ds c (a .1) g)
+  -- in whatever order
+  insert-good : (before : CandidateReg → CandidateReg → Bool) (cs : List CandidateReg) (c : CandidateReg) → Candidates cs → Candidate j v c → Candidates (insertBy before c cs)
+  unfolding insertBy
+  insert-good before [] c a g = (g, tt)
+  insert-good before (d ∷ ds) c a g = go (before c d) (insert-good before ds c (a .1) g)
     where
-      go : (b : Bool) → Candidates (byWeight ds c) → Candidates (putBefore b c d ds (byWeight ds c))
+      go : (b : Bool) → Candidates (insertBy before c ds) → Candidates (putBefore b c d ds (insertBy before c ds))
       go true ih = (g, a)
       go false ih = (a .0, ih)
 
@@ -183,11 +184,11 @@ module _ (j : Job) (p : Premises j) (v : ℕ) (b : IsNumber j v) where
 
   -- the hinted candidates and all candidates, where the register last given to the set is named
   pub hinted-good : (o : Option ℕ) → ((r : ℕ) → o ≡ some r → T (named j v r)) → Candidates j v (hintedOrder (virtReg j v) o)
-  unfolding hintedOrder
+  unfolding hintedOrder byWeight
   hinted-good o l =
       let sums = foldl addHint [] (virtReg j v .hints) in
       let a = fold-good j v (GoodHint j v) addHint (add-good j v) (virtReg j v .hints) good-hints [] tt in
-      last-good j v (foldl byWeight [] sums) o (fold-good j v (Candidate j v) byWeight (insert-good j v) sums (candidates-out j v sums a) [] tt) l
+      last-good j v (foldl byWeight [] sums) o (fold-good j v (Candidate j v) byWeight (λ cs c. insert-good j v _ cs c) sums (candidates-out j v sums a) [] tt) l
 
   pub order-good : (hinted : List CandidateReg) → Candidates j v hinted → Candidates j v (order j v hinted)
   unfolding order
