@@ -34,19 +34,20 @@ use Rattle.allocator.specs.Demand.{OfLoaded}
 
 -- ---- no sharing (00, demand 3: what the box needs of Holding)
 
--- v holds a register that has the unit u
+-- 01, "Holding": v holds a register that has the unit u
 pub record HasUnit (j : Job) (h : Holding) (v u : ℕ) : Type 0 where
   pub reg : ℕ
   pub holds : h v ≡ some reg
   pub unit : u ∈ unitsOf (unitMap j reg)
 
--- v is live at the point x: one of its segments has it (01, "The job": ranges are half-open)
+-- 01, "The job" (ranges are half-open): v is live at the point x, one of its segments has it
 pub record LiveAt (j : Job) (v x : ℕ) : Type 0 where
   pub segment : ValueSegment
   pub among : segment ∈ segmentsOf j v
   pub starts : segment .from ≤ x
   pub ends : x < segment .to
 
+-- 01, "Holding", and the check's reports: who holds what never clashes
 pub record NeverShared (j : Job) (h : Holding) : Type 0 where
   -- two that have a unit in common: of a segment of the one and a segment of the other, one ends before the other starts
   pub units-apart :
@@ -61,25 +62,25 @@ pub record NeverShared (j : Job) (h : Holding) : Type 0 where
       (v u : ℕ) → HasUnit j h v u → (e : Entry) → e ∈ j .fixed → e .unit ≡ u
       → (s : ValueSegment) → s ∈ segmentsOf j v → e .from < s .to → s .from < e .to → e .reservation ≡ FixedUse (s .value)
 
--- after any list of calls
+-- 01, "Holding": after any list of calls
 abbrev pub NeverSharedAfter : Type 0
 NeverSharedAfter = OfLoaded (λ j. (cs : List Call) → NeverShared j (holds j cs))
 
 -- ---- agreement with Holding (01, "Holding": the records never decide it; "What the stage answers": 13)
 
--- the record stands as assigned, with the register r
+-- 01, "Where the Rust's forms give way", `Assignment`: the record stands as assigned, with the register r
 pub record AssignedTo (a : Assignment) (r : ℕ) : Type 0 where
   pub flag : Bool
   pub weight : Float
   pub stands : a ≡ Assigned flag r weight
 
--- full-size buffers, a number of a virtual register, and it holds something
+-- 01, "Order" (15, 8, 13): full-size buffers, a number of a virtual register, and it holds something
 pub record MayBeEvicted (j : Job) (h : Holding) (lent : List ℕ) (v : ℕ) : Type 0 where
   pub lends : T (not (shortBuffer stageLimits lent))
   pub known : v < length (j .virtRegs)
   pub holds : T (isSome (h v))
 
--- an entry of a holder: a segment of its number, on a unit that the number has
+-- 01, "Placing": an entry of a holder, of a segment of its number, on a unit that the number has
 pub record HeldEntry (j : Job) (h : Holding) (e : Entry) : Type 0 where
   pub number : ℕ
   pub segment : ValueSegment
@@ -88,7 +89,7 @@ pub record HeldEntry (j : Job) (h : Holding) (e : Entry) : Type 0 where
   pub among : segment ∈ segmentsOf j number
   pub stands : e ≡ record { unit = e .unit; from = segment .from; to = segment .to; reservation = Held number index }
 
--- a state beside who holds what
+-- 01, "Holding": a state beside who holds what
 pub record Agreement (j : Job) (s : State) (h : Holding) : Type 0 where
   -- the table has an entry for each segment of a holder on each of its units, and what else it has is fixed
   pub table-has :
@@ -105,13 +106,13 @@ pub record Agreement (j : Job) (s : State) (h : Holding) : Type 0 where
   -- test 13 of a direct placement: it holds nothing and is not left over
   pub standing : (v : ℕ) → isUnassigned s v ≡ (not (isSome (h v)) && not (isLeftOver s v))
 
--- after any list of calls
+-- 01, "Holding": after any list of calls
 abbrev pub AgreementAfter : Type 0
 AgreementAfter = OfLoaded (λ j. (cs : List Call) → Agreement j (afterAll j cs) (holds j cs))
 
 -- ---- capacity (01, "Limits"; "Order": "a call that none of its tests refuses is carried out")
 
--- of a state of the job j
+-- 01, "Limits": what a state of the job j needs of fixed buffers
 pub record FitsBuffers (j : Job) (s : State) : Type 0 where
   -- the table: its entries, the two words of each, and a fixed index in it
   pub entries : length (s .table) ≤ maxEntries
@@ -140,17 +141,18 @@ pub record FitsBuffers (j : Job) (s : State) : Type 0 where
   pub sums : (vs : List ℕ) → Plain (weights s vs)
   pub costs : (rs : List Interference) → Plain (costOf j s rs .«preference_weight») × Plain (costOf j s rs .«spill_weight»)
 
--- after any list of calls
+-- 01, "Order": after any list of calls, so that what no test refuses can be carried out
 abbrev pub FitsBuffersAfter : Type 0
 FitsBuffersAfter = OfLoaded (λ j. (cs : List Call) → FitsBuffers j (afterAll j cs))
 
 -- ---- the order of evictions (01, "A dequeue")
 
+-- for `EvictOrder`
 abbrev pub SameMembers : List ℕ → List ℕ → Type 0
 SameMembers vs ws = (v : ℕ) → (v ∈ vs) ↔ (v ∈ ws)
 
--- in a run with any budget after any list of calls: a decision with other evictions in the place of its own, of the same members, is carried out
--- to the same state
+-- 01, "A dequeue": in a run with any budget after any list of calls, a decision with other evictions in the place of its own, of the same members, is
+-- carried out to the same state
 abbrev pub EvictOrder : Type 0
 EvictOrder =
     OfLoaded
@@ -160,7 +162,7 @@ EvictOrder =
 
 -- ---- printed lines (01, "Holding": "Entries are equal where their printed lines are")
 
--- any two entries, of tables after any calls
+-- 01, "Holding": "Entries are equal where their printed lines are", any two, of tables after any calls
 abbrev pub EntryLines : Type 0
 EntryLines =
     OfLoaded
