@@ -16,5 +16,6 @@ pub mod Agreement
 pub mod NeverShared
 pub mod EvictOrder
 pub mod Capacity
+pub mod Good
 pub mod NotBytes
 pub mod TestsNeeded

@@ -9,5 +9,6 @@ pub mod Calls
 pub mod Holding
 pub mod Demand
 pub mod Corollaries
+pub mod Reached
 pub mod Sheet
 pub mod Script

@@ -19,13 +19,13 @@ use Rattle.reg_matrix.specs.declared.ValueSegment.{ValueSegment}
 use Rattle.reg_matrix.specs.declared.Entry.{Entry}
 use Rattle.matrix.specs.declared.Moved.{Moved}
 use Rattle.matrix.specs.declared.Moved.the-variants.{Done}
+use Rattle.reg_matrix.proofs.Places.{padded-length}
 use Rattle.reg_matrix.proofs.Cells.{Cell}
 use Rattle.reg_matrix.proofs.Chains.{Sound}
 use Rattle.reg_matrix.proofs.Whole.{cells}
 use Rattle.reg_matrix.proofs.Clear.{Segments}
 use Rattle.reg_matrix.proofs.Laws.{Matrix}
 use Rattle.matrix.proofs.Standing.{Stands}
-use Rattle.matrix.proofs.UseWords.{padded-length}
 use Rattle.matrix.proofs.Lying.{AllSmall, allUses, UsesLie}
 use Rattle.matrix.proofs.Moving.{SmallCells, SmallPoints, assign-stands, evict-stands}
 

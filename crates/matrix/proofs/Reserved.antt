@@ -21,9 +21,10 @@ use Rattle.reg_matrix.specs.declared.Entry.{Entry}
 use Rattle.reg_matrix.specs.declared.Reservation.{Reservation}
 use Rattle.reg_matrix.specs.declared.Reservation.the-variants.{FixedDef}
 use Rattle.reg_matrix.proofs.Tests.{less-equal-greater}
-use Rattle.reg_matrix.proofs.Members.{_∈_, concat-none, concat-same, count-out}
+use Rattle.reg_matrix.proofs.Members.{_∈_, concat-none, count-out}
 use Rattle.reg_matrix.proofs.Sorted.{Sorted}
 use Rattle.reg_matrix.proofs.Chains.{Sound}
+use Rattle.reg_matrix.proofs.Places.{concat-same}
 use Rattle.matrix.proofs.Shifts.{filled-is}
 use Rattle.matrix.proofs.Standing.{SmallEnds, Stands, room-inserted, insert-stands}
 use Rattle.matrix.proofs.Lying.{SmallFixed, AllSmall, allUses, UsesLie, first-use, use-place, use-count}

@@ -5,7 +5,6 @@ use reg_matrix::Interference;
 
 pub mod assign;
 pub mod check;
-mod lent;
 mod ranges;
 pub mod reserve;
 mod search;

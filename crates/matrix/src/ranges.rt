@@ -4,7 +4,7 @@ ghost use mathlib.Core.List.{[], _∷_};
 ghost use Rattle.reg_matrix.specs.Refusals.{rangeRefusal, rangesRefusal, shortBuffer, badSlot};
 ghost use Rattle.reg_matrix.specs.Questions.{checkLimits};
 ghost use Rattle.matrix.specs.Walk.{refusalNumber, segmentsIn};
-use crate::lent::at32;
+use lent::at32;
 
 // Whether a buffer lent to a check is shorter than its limit: the segments have as many ends and values as starts.
 pub fn short_buffers(

@@ -2,10 +2,10 @@
 -- element says of its parts. Assumes nothing.
 use Prim.Native.Nat.{ℕ, zero, suc, _<_, _≤_, _+_}
 use native.Mathlib.Omega.{arith}
-use mathlib.Core.Path.{_≡_, refl, sym, ap, ap₂, _∙_, subst}
+use mathlib.Core.Path.{_≡_, refl, sym, ap, _∙_, subst}
 use mathlib.Core.Logic.{_⊎_, inl, inr}
 use mathlib.Core.Option.{some}
-use mathlib.Core.List.{List, [], _∷_, _++_, append-assoc, List·Memᴰ·head, List·Memᴰ·tail, List·Memᴰ·cases-cons, Memᴰ·append-left, Memᴰ·append-right, List·Memᴰ·append-cases}
+use mathlib.Core.List.{List, [], _∷_, _++_, List·Memᴰ·head, List·Memᴰ·tail, List·Memᴰ·cases-cons, Memᴰ·append-left, Memᴰ·append-right, List·Memᴰ·append-cases}
 use mathlib.Core.Bool.{Bool, true, false, _&&_, _||_}
 use lib.Dec.{T, eqb, eqb→eq}
 use lib.ListN.{length, getD, drop}
@@ -142,16 +142,6 @@ module _ {A B : Type 0} (f : A → List B) where
   unfolding concatMap
   concat-none [] h = refl
   concat-none (x ∷ xs) h = ap (λ (l : List B). l ++ concatMap f xs) (h x (List·Memᴰ·head refl)) ∙ concat-none xs (λ y m. h y (List·Memᴰ·tail m))
-
-  pub concat-append : (xs ys : List A) → concatMap f (xs ++ ys) ≡ concatMap f xs ++ concatMap f ys
-  unfolding concatMap
-  concat-append [] ys = refl
-  concat-append (x ∷ xs) ys = ap (λ (l : List B). f x ++ l) (concat-append xs ys) ∙ sym (append-assoc (f x) (concatMap f xs) (concatMap f ys))
-
-  pub concat-same : (g : A → List B) (xs : List A) → ((x : A) → x ∈ xs → f x ≡ g x) → concatMap f xs ≡ concatMap g xs
-  unfolding concatMap
-  concat-same g [] h = refl
-  concat-same g (x ∷ xs) h = ap₂ (λ (k l : List B). k ++ l) (h x (List·Memᴰ·head refl)) (concat-same g xs (λ y m. h y (List·Memᴰ·tail m)))
 
 -- ---- count
 

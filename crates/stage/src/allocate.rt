@@ -14,15 +14,15 @@ use crate::evict::Tried;
 use crate::evict::is_cheaper;
 use crate::evict::may_evict;
 use crate::evict::try_reports;
-use crate::lent::at;
-use crate::lent::at8;
-use crate::lent::weight_at;
 use crate::order::AllocationOrder;
 use crate::order::Offer;
 use crate::order::candidate;
 use allocator::Assignment;
 use allocator::CandidateReg;
 use allocator::EvictCost;
+use lent::at;
+use lent::at_float;
+use lent::at8;
 use matrix::Step;
 use matrix::check::enter;
 
@@ -268,7 +268,7 @@ pub fn try_evict_for_preferred_reg(
         }
         let c = CandidateReg {
             reg: at8(regs, place),
-            preference_weight: weight_at(weights, place),
+            preference_weight: at_float(weights, place),
         };
         let units = at(maps, wide(c.reg));
         let t = try_on(

@@ -3,9 +3,9 @@ ghost use mathlib.Core.Path.{_≡_};
 ghost use Rattle.allocator.specs.Evict.{maxWeight, cheaper};
 ghost use Rattle.stage.specs.EvictWalk.{recordWeight, addHolder, mayEvict, triedOf};
 ghost use Rattle.matrix.specs.Walk.{lent, remaining};
-use crate::lent::weight_at;
 use allocator::Assignment;
 use allocator::EvictCost;
+use lent::at_float;
 use matrix::Cursor;
 use matrix::Step;
 use reg_matrix::InterferenceKind;
@@ -127,7 +127,7 @@ pub fn try_reports(
             every_report = every_report + held;
             if !holders[i] {
                 holders[i] = true;
-                cost = add_holder(cost, held, weight_at(spills, i));
+                cost = add_holder(cost, held, at_float(spills, i));
             }
         }
     }

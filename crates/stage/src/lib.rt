@@ -3,6 +3,5 @@
 
 pub mod allocate;
 pub mod evict;
-mod lent;
 pub mod order;
 pub mod queue;

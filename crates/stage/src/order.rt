@@ -10,7 +10,6 @@ ghost use Rattle.reg_matrix.specs.Lists.{bit, has};
 ghost use Rattle.allocator.specs.declared.CandidateReg.{CandidateReg};
 ghost use Rattle.allocator.specs.Order.{addHint, orLast, highestPreference};
 ghost use Rattle.stage.specs.OrderWalk.{hintsOf, zipped, listed, regPlace, weightPlace, moved, lastOf, sorted, merged, hintedOf, Marked, Computed, offerAt};
-use crate::lent;
 use allocator::CandidateReg;
 
 // The register last given to a member of a set, if there is one.
@@ -60,12 +59,12 @@ fn add_hint(regs: &mut [u8], weights: &mut [f32], n: usize, reg: u8, weight: f32
 {
     let at = find_reg(regs, n, reg);
     if at < n {
-        let sum = lent::weight_at(weights, at) + weight;
-        lent::put_weight(weights, at, sum);
+        let sum = lent::at_float(weights, at) + weight;
+        lent::put_float(weights, at, sum);
         return n;
     }
     lent::put8(regs, n, reg);
-    lent::put_weight(weights, n, 0.0 + weight);
+    lent::put_float(weights, n, 0.0 + weight);
     n + 1
 }
 
@@ -89,7 +88,7 @@ fn merge(hint_regs: &[u8], hint_weights: &[f32], regs: &mut [u8], weights: &mut 
             weights,
             n,
             lent::at8(hint_regs, i),
-            lent::weight_at(hint_weights, i),
+            lent::at_float(hint_weights, i),
         );
         i += 1;
     }
@@ -103,7 +102,7 @@ fn place_of(weights: &[f32], n: usize, weight: f32) -> usize
 {
     let mut i = 0;
     while i < n {
-        if lent::weight_at(weights, i) < weight {
+        if lent::at_float(weights, i) < weight {
             return i;
         }
         i += 1;
@@ -117,13 +116,13 @@ fn move_to(regs: &mut [u8], weights: &mut [f32], at: usize, n: usize)
     ensures { λ r. ⌜ zipped (now (regs .exit)) (now (weights .exit)) ≡ moved at n (zipped (now (regs .entry)) (now (weights .entry))) ⌝ }
 {
     let mut reg = lent::at8(regs, n);
-    let mut weight = lent::weight_at(weights, n);
+    let mut weight = lent::at_float(weights, n);
     let mut i = at;
     while i <= n {
         let r = lent::at8(regs, i);
-        let w = lent::weight_at(weights, i);
+        let w = lent::at_float(weights, i);
         lent::put8(regs, i, reg);
-        lent::put_weight(weights, i, weight);
+        lent::put_float(weights, i, weight);
         reg = r;
         weight = w;
         i += 1;
@@ -137,7 +136,7 @@ fn sort(regs: &mut [u8], weights: &mut [f32], n: usize)
 {
     let mut k = 0;
     while k < n {
-        let at = place_of(weights, k, lent::weight_at(weights, k));
+        let at = place_of(weights, k, lent::at_float(weights, k));
         move_to(regs, weights, at, k);
         k += 1;
     }
@@ -162,7 +161,7 @@ fn add_last(regs: &mut [u8], weights: &mut [f32], n: usize, last: Last) -> usize
                 return n;
             }
             lent::put8(regs, n, reg);
-            lent::put_weight(weights, n, 0.0);
+            lent::put_float(weights, n, 0.0);
             n + 1
         }
     }
@@ -242,7 +241,7 @@ pub fn candidate(
     if i < n {
         return Offer::Reg(CandidateReg {
             reg: lent::at8(regs, i),
-            preference_weight: lent::weight_at(weights, i),
+            preference_weight: lent::at_float(weights, i),
         });
     }
     if class.len() <= i - n {
@@ -265,5 +264,5 @@ pub fn highest_preference(order: AllocationOrder, weights: &[f32]) -> f32
     if order.count == 0 {
         return 0.0;
     }
-    lent::weight_at(weights, 0)
+    lent::at_float(weights, 0)
 }

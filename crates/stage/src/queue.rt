@@ -7,7 +7,6 @@ ghost use mathlib.Core.Bool.{cond};
 ghost use lib.ListN.{getD};
 ghost use Rattle.allocator.specs.Queue.{stageBit};
 ghost use Rattle.stage.specs.QueueWalk.{keyOf, decoded, playAt, setWord, firstWord, leavesFrom, playFrom, filled};
-use crate::lent;
 use allocator::Stage;
 
 // Whose turn it is, and the stage that it waits at.

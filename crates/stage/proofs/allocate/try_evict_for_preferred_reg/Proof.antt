@@ -38,8 +38,8 @@ returns c =
 at8-requires : tie.Need-at8-requires Inv-loop μ-loop
 at8-requires c κs = search needs
 
-weight-at-requires : tie.Need-weight-at-requires Inv-loop μ-loop
-weight-at-requires c κs = search needs
+at-float-requires : tie.Need-at-float-requires Inv-loop μ-loop
+at-float-requires c κs = search needs
 
 wide-requires : tie.Need-wide-requires Inv-loop μ-loop
 wide-requires c κs = search needs
@@ -57,7 +57,7 @@ returns-2 : tie.Need-returns-2 Inv-loop μ-loop
 returns-2 c =
     λ hs k b.
     let l = computed-length _ _ _ hs k in
-    prefer-yes _ _ _ _ _ hs (c .before .before .before .before .before .before .before .before .before .before .before .before .loop .i) (omega (arith, c .before .before .before .before .before .before .before .before .before .if1 .left)) _ (rw (c .before .before .before .before .before .before .before .before .at8 .ensures, c .before .before .before .before .before .before .before .weight-at .ensures) (sym (hinted-at _ _ _ hs k (c .before .before .before .before .before .before .before .before .before .before .before .before .loop .i) (c .before .before .before .before .before .before .before .before .before .if1 .left)))) _ (tried-is _ _ _ _ _ _ _ _ (c .before .before .before .before .before .before .wide .ensures) (c .before .before .before .before .before .at .ensures) (c .before .before .before .before .try-on .ensures)) (sym (c .before .before .before .is-preferred .ensures) ∙ c .before .before .if2 .taken) ∙ c .before .before .before .before .before .before .before .before .before .before .before .before .loop .inv .1 hs k b
+    prefer-yes _ _ _ _ _ hs (c .before .before .before .before .before .before .before .before .before .before .before .before .loop .i) (omega (arith, c .before .before .before .before .before .before .before .before .before .if1 .left)) _ (rw (c .before .before .before .before .before .before .before .before .at8 .ensures, c .before .before .before .before .before .before .before .at-float .ensures) (sym (hinted-at _ _ _ hs k (c .before .before .before .before .before .before .before .before .before .before .before .before .loop .i) (c .before .before .before .before .before .before .before .before .before .if1 .left)))) _ (tried-is _ _ _ _ _ _ _ _ (c .before .before .before .before .before .before .wide .ensures) (c .before .before .before .before .before .at .ensures) (c .before .before .before .before .try-on .ensures)) (sym (c .before .before .before .is-preferred .ensures) ∙ c .before .before .if2 .taken) ∙ c .before .before .before .before .before .before .before .before .before .before .before .before .loop .inv .1 hs k b
 
 loop-less : tie.Need-loop-less Inv-loop μ-loop
 loop-less c = search needs
@@ -67,7 +67,7 @@ loop-again c = (
   omega (arith, c .before .before .before .before .before .before .before .before .before .loop-test .taken),
   λ hs k b.
       let l = computed-length _ _ _ hs k in
-      prefer-no _ _ _ _ _ hs (c .before .before .before .before .before .before .before .before .before .before .loop .i) (omega (arith, c .before .before .before .before .before .before .before .if1 .left)) _ (rw (c .before .before .before .before .before .before .at8 .ensures, c .before .before .before .before .before .weight-at .ensures) (sym (hinted-at _ _ _ hs k (c .before .before .before .before .before .before .before .before .before .before .loop .i) (c .before .before .before .before .before .before .before .if1 .left)))) _ (tried-is _ _ _ _ _ _ _ _ (c .before .before .before .before .wide .ensures) (c .before .before .before .at .ensures) (c .before .before .try-on .ensures)) (sym (c .before .is-preferred .ensures) ∙ c .if2 .left) ∙ c .before .before .before .before .before .before .before .before .before .before .loop .inv .1 hs k b,
+      prefer-no _ _ _ _ _ hs (c .before .before .before .before .before .before .before .before .before .before .loop .i) (omega (arith, c .before .before .before .before .before .before .before .if1 .left)) _ (rw (c .before .before .before .before .before .before .at8 .ensures, c .before .before .before .before .before .at-float .ensures) (sym (hinted-at _ _ _ hs k (c .before .before .before .before .before .before .before .before .before .before .loop .i) (c .before .before .before .before .before .before .before .if1 .left)))) _ (tried-is _ _ _ _ _ _ _ _ (c .before .before .before .before .wide .ensures) (c .before .before .before .at .ensures) (c .before .before .try-on .ensures)) (sym (c .before .is-preferred .ensures) ∙ c .if2 .left) ∙ c .before .before .before .before .before .before .before .before .before .before .loop .inv .1 hs k b,
 )
 
 none-yet-requires-2 : tie.Need-none-yet-requires-2 Inv-loop μ-loop
@@ -87,7 +87,7 @@ try-evict-for-preferred-reg-spec =
     none-yet-requires
     returns
     at8-requires
-    weight-at-requires
+    at-float-requires
     wide-requires
     at-requires
     try-on-requires

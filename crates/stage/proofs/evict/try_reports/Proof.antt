@@ -60,8 +60,8 @@ array-read-if2 c = search needs
 array-write-holders : tie.Need-array-write-holders Inv-loop μ-loop
 array-write-holders c = search needs
 
-weight-at-requires : tie.Need-weight-at-requires Inv-loop μ-loop
-weight-at-requires c κs = search needs
+at-float-requires : tie.Need-at-float-requires Inv-loop μ-loop
+at-float-requires c κs = search needs
 
 add-holder-requires : tie.Need-add-holder-requires Inv-loop μ-loop
 add-holder-requires c κs = search needs
@@ -70,7 +70,7 @@ loop-less : tie.Need-loop-less Inv-loop μ-loop
 loop-less c = next-less _ _ _ (c .before .before .before .before .before .before .before .before .before .before .before .before .next .ensures .told) _ _ (c .before .before .before .before .before .before .before .before .before .before .report .given .1)
 
 loop-again : tie.Need-loop-again Inv-loop μ-loop
-loop-again c = (simp length-set (c .before .before .before .before .before .before .before .before .before .before .before .before .before .loop .inv .0), rw (c .add-holder .ensures, c .before .weight-at .ensures, c .before .before .before .held-weight .ensures) (try-new _ _ _ _ _ _ _ _ (c .before .before .before .before .before .before .before .before .before .before .before .before .next .ensures .told) _ _ (c .before .before .before .before .before .before .before .before .before .before .report .given .1) _ (c .before .before .before .before .before .before .before .kind .given .1) (lt-ltb _ _ (c .before .before .before .before .before .if1 .taken)) (not-true _ (c .before .before .if2 .taken)) ∙ c .before .before .before .before .before .before .before .before .before .before .before .before .before .loop .inv .1))
+loop-again c = (simp length-set (c .before .before .before .before .before .before .before .before .before .before .before .before .before .loop .inv .0), rw (c .add-holder .ensures, c .before .at-float .ensures, c .before .before .before .held-weight .ensures) (try-new _ _ _ _ _ _ _ _ (c .before .before .before .before .before .before .before .before .before .before .before .before .next .ensures .told) _ _ (c .before .before .before .before .before .before .before .before .before .before .report .given .1) _ (c .before .before .before .before .before .before .before .kind .given .1) (lt-ltb _ _ (c .before .before .before .before .before .if1 .taken)) (not-true _ (c .before .before .if2 .taken)) ∙ c .before .before .before .before .before .before .before .before .before .before .before .before .before .loop .inv .1))
 
 loop-less-2 : tie.Need-loop-less-2 Inv-loop μ-loop
 loop-less-2 c = next-less _ _ _ (c .before .before .before .before .before .before .before .before .before .before .next .ensures .told) _ _ (c .before .before .before .before .before .before .before .before .report .given .1)
@@ -104,7 +104,7 @@ try-reports-spec =
     held-weight-requires
     array-read-if2
     array-write-holders
-    weight-at-requires
+    at-float-requires
     add-holder-requires
     loop-less
     loop-again

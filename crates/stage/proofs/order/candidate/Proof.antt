@@ -8,13 +8,13 @@ use Rattle.stage.proofs.order.candidate.Tie as tie
 at8-requires : tie.Need-at8-requires
 at8-requires c κs = search needs
 
-weight-at-requires : tie.Need-weight-at-requires
-weight-at-requires c κs = search needs
+at-float-requires : tie.Need-at-float-requires
+at-float-requires c κs = search needs
 
 returns : tie.Need-returns
 returns c =
     let a = c .before .before .before .before .before .before .args in
-    λ hs k. rw (c .before .at8 .ensures, c .weight-at .ensures) (laws.offer-hinted (a .order) (a .regs .now) (a .weights .now) hs k (a .class .now) (a .i) (c .before .before .if1 .taken))
+    λ hs k. rw (c .before .at8 .ensures, c .at-float .ensures) (laws.offer-hinted (a .order) (a .regs .now) (a .weights .now) hs k (a .class .now) (a .i) (c .before .before .if1 .taken))
 
 returns-2 : tie.Need-returns-2
 returns-2 c =
@@ -42,7 +42,7 @@ candidate-spec =
     tie.close
     (tie.spec
     at8-requires
-    weight-at-requires
+    at-float-requires
     returns
     returns-2
     at8-requires-2

@@ -19,13 +19,13 @@ abbrev μ-loop : tie.MeasureT-loop
 loop-holds : tie.Need-loop-holds Inv-loop μ-loop
 loop-holds c = (omega arith, omega arith)
 
-weight-at-requires : tie.Need-weight-at-requires Inv-loop μ-loop
-weight-at-requires c κs = search needs
+at-float-requires : tie.Need-at-float-requires Inv-loop μ-loop
+at-float-requires c κs = search needs
 
 returns : tie.Need-returns Inv-loop μ-loop
 returns c =
     let a = c .before .before .before .before .before .args in
-    omega (arith, c .before .before .before .loop .inv .1, laws.place-here (λ x. lt x (a .weight)) (a .weights .now) zeroWeight (c .before .before .before .loop .i) (a .n) (c .before .before .loop-test .taken) (c .before .before .before .before .before .pre) (ap (λ x. lt x (a .weight)) (sym (c .before .weight-at .ensures)) ∙ c .if1 .taken))
+    omega (arith, c .before .before .before .loop .inv .1, laws.place-here (λ x. lt x (a .weight)) (a .weights .now) zeroWeight (c .before .before .before .loop .i) (a .n) (c .before .before .loop-test .taken) (c .before .before .before .before .before .pre) (ap (λ x. lt x (a .weight)) (sym (c .before .at-float .ensures)) ∙ c .if1 .taken))
 
 add-i : tie.Need-add-i Inv-loop μ-loop
 add-i c = search needs
@@ -36,7 +36,7 @@ loop-less c = search needs
 loop-again : tie.Need-loop-again Inv-loop μ-loop
 loop-again c =
     let a = c .before .before .before .before .before .args in
-    (omega arith, laws.place-more (λ x. lt x (a .weight)) (a .weights .now) zeroWeight (c .before .before .before .loop .i) (a .n) (c .before .before .loop-test .taken) (c .before .before .before .before .before .pre) (ap (λ x. lt x (a .weight)) (sym (c .before .weight-at .ensures)) ∙ c .if1 .left) ∙ c .before .before .before .loop .inv .1)
+    (omega arith, laws.place-more (λ x. lt x (a .weight)) (a .weights .now) zeroWeight (c .before .before .before .loop .i) (a .n) (c .before .before .loop-test .taken) (c .before .before .before .before .before .pre) (ap (λ x. lt x (a .weight)) (sym (c .before .at-float .ensures)) ∙ c .if1 .left) ∙ c .before .before .before .loop .inv .1)
 
 returns-2 : tie.Need-returns-2 Inv-loop μ-loop
 returns-2 c =
@@ -50,7 +50,7 @@ place-of-spec =
     Inv-loop
     μ-loop
     loop-holds
-    weight-at-requires
+    at-float-requires
     returns
     add-i
     loop-less

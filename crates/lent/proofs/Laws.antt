@@ -1,0 +1,27 @@
+-- What stands at a place inside does not hang on the default; when a part is empty, and when it is all that was asked for. Assumes nothing.
+use Prim.Native.Nat.{ℕ, zero, suc, _-_, _≤_, _<_}
+use native.Mathlib.Omega.{arith}
+use mathlib.Core.Path.{_≡_, refl}
+use mathlib.Core.List.{List, [], _∷_}
+use lib.ListN.{length, take, drop, getD}
+use borrow.Author.Tests.{lt-leb, le-leb}
+use mathlib.Core.Bool.{false, _&&_}
+use Rattle.lent.specs.Parts.{part}
+
+pub any-default : {A : Type 0} (l : List A) (i : ℕ) (d e : A) → i < length l → getD l i d ≡ getD l i e
+any-default [] i d e h = absurd (omega arith)
+any-default (x ∷ xs) zero d e h = refl
+any-default (x ∷ xs) (suc i) d e h = any-default xs i d e (omega arith)
+
+module _ {A : Type 0} (a b : ℕ) (xs : List A) where
+  pub turned : b < a → part a b xs ≡ []
+  unfolding part
+  turned h = simp (lt-leb _ _ h)
+
+  pub inside : a ≤ b → b ≤ length xs → part a b xs ≡ take (b - a) (drop a xs)
+  unfolding part
+  inside h l = simp (le-leb _ _ h, le-leb _ _ l)
+
+  pub past : a ≤ b → length xs < b → part a b xs ≡ []
+  unfolding part
+  past h l = simp (le-leb _ _ h, lt-leb _ _ l)
