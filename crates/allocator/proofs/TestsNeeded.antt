@@ -25,6 +25,10 @@ abbrev jobOf : Parsed Job → Job
 jobOf (refused n) = record { regs = []; classes = []; fixed = []; virtRegs = []; probe = none; budget = 0 }
 jobOf (parsed j s) = j
 
+-- the job's length, its fields and their end, as loading tests them ahead of 10, 11 and 12
+abbrev Loads : List ℕ → Job → Type 0
+Loads bytes j = T (not (ltb 32_768 (length bytes))) × (jobFields bytes ≡ parsed j [])
+
 are-bytes : (s : List ℕ) → T (all (λ b. ltb b 256) s) → Bytes s
 unfolding all
 are-bytes [] t i = omega arith
@@ -37,11 +41,11 @@ twins : List ℕ
 twins = hex "0B 02 0100000000000000 0100000000000000 01 020001 0100 20 0100 04000000 08000000 0100"
 
 pub twins-needed :
-    ((bytes : List ℕ) (j : Job) → Bytes bytes → jobFields bytes ≡ parsed j [] → T (not (mixedSet j) && not (cutUse j)) → TablesAreHolders j)
+    ((bytes : List ℕ) (j : Job) → Bytes bytes → Loads bytes j → T (not (mixedSet j) && not (cutUse j)) → TablesAreHolders j)
     → ⊥
 unfolding opened twins hex hexFrom
 twins-needed d =
-    let two = d twins (jobOf (jobFields twins)) (are-bytes twins tt) refl tt .decided (placing stageLimits 0 0 zeroWeight ∷ []) (placing stageLimits 0 1 zeroWeight ∷ []) .0 refl 0 in
+    let two = d twins (jobOf (jobFields twins)) (are-bytes twins tt) (tt, refl) tt .decided (placing stageLimits 0 0 zeroWeight ∷ []) (placing stageLimits 0 1 zeroWeight ∷ []) .0 refl 0 in
     let one : _≡_ {A = ℕ} 0 1 = same-some two in
     omega (arith, one)
 
@@ -51,11 +55,11 @@ cut : List ℕ
 cut = hex "0F 01 0100000000000000 01 0100 0200 0A 04000000 0100 0A 08000000 0100 0100 20 0100 04000000 09000000 0100"
 
 pub cut-uses-needed :
-    ((bytes : List ℕ) (j : Job) → Bytes bytes → jobFields bytes ≡ parsed j [] → T (not (twin j) && not (mixedSet j)) → TablesAreHolders j)
+    ((bytes : List ℕ) (j : Job) → Bytes bytes → Loads bytes j → T (not (twin j) && not (mixedSet j)) → TablesAreHolders j)
     → ⊥
 unfolding opened cut hex hexFrom
 cut-uses-needed d =
-    let t = d cut (jobOf (jobFields cut)) (are-bytes cut tt) refl tt .decided (placing stageLimits 0 0 zeroWeight ∷ evicting stageLimits 0 ∷ []) [] .1 (λ v. given (eqb v 0)) in
+    let t = d cut (jobOf (jobFields cut)) (are-bytes cut tt) (tt, refl) tt .decided (placing stageLimits 0 0 zeroWeight ∷ evicting stageLimits 0 ∷ []) [] .1 (λ v. given (eqb v 0)) in
     let l : _≡_ {A = ℕ} 3 2 = ap (λ (t : Table). length t) t in
     omega (arith, l)
   where
