@@ -21,6 +21,7 @@ use Rattle.reg_matrix.proofs.Tests.{same-test}
 use Rattle.reg_matrix.proofs.Members.{_∈_}
 use Rattle.reg_matrix.proofs.Sorted.{Before, before→, →before, Below, below-out, below-in, Sorted}
 use Rattle.matrix.proofs.Halves.{below-length, place-searched}
+pub use Rattle.matrix.proofs.Halves.{none-below as below-none}
 use Rattle.matrix.proofs.Shifts.{inserted-room, removed-room}
 
 -- ---- numbers that rise, and what is behind them
@@ -52,11 +53,6 @@ below-step key x xs h = rw (lt-ltb x key h)
 pub below-past : (key x : ℕ) (xs : List ℕ) → key ≤ x → below key (x ∷ xs) ≡ below key xs
 unfolding below filter
 below-past key x xs h = rw (le-ltb x key h)
-
-pub below-none : (key : ℕ) (xs : List ℕ) → ((y : ℕ) → y ∈ xs → key ≤ y) → below key xs ≡ 0
-unfolding below filter
-below-none key [] h = refl
-below-none key (x ∷ xs) h = rw (le-ltb x key (h x (List·Memᴰ·head refl))) (below-none key xs (λ y m. h y (List·Memᴰ·tail m)))
 
 pub below-all : (key : ℕ) (xs : List ℕ) → ((y : ℕ) → y ∈ xs → y < key) → below key xs ≡ length xs
 unfolding below filter
