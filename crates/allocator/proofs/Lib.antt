@@ -19,3 +19,4 @@ pub mod Capacity
 pub mod Good
 pub mod Records
 pub mod NotBytes
+pub mod TestsNeeded
