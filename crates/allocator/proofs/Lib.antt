@@ -16,4 +16,7 @@ pub mod Agreement
 pub mod NeverShared
 pub mod EvictOrder
 pub mod Capacity
+pub mod Good
+pub mod Records
 pub mod NotBytes
+pub mod TestsNeeded

@@ -16,7 +16,7 @@ use Rattle.reg_matrix.specs.declared.Entry.{Entry}
 use Rattle.reg_matrix.specs.declared.Reservation.{Reservation}
 use Rattle.reg_matrix.specs.declared.Reservation.the-variants.{Held, FixedUse, FixedDef}
 use Rattle.reg_matrix.proofs.Tests.{both, both-in, or-left, or-right, passes-or-not, eqb-in, less-equal-greater}
-use Rattle.reg_matrix.proofs.Members.{_∈_, filter-out, any-in}
+use Rattle.reg_matrix.proofs.Members.{_∈_, filter-out, any-in, getD-in}
 use Rattle.reg_matrix.proofs.Sorted.{Parted, ordered-by-ends}
 use Rattle.reg_matrix.proofs.Cells.{Inside, overlaps→}
 use Rattle.reg_matrix.proofs.Chains.{Sound, Chain}
@@ -26,7 +26,7 @@ use Rattle.job.specs.Model.{VirtReg, Job, noVirtReg, virtReg, segmentsOf
 use Rattle.job.specs.Layout.{allHints, allSegments}
 use Rattle.job.specs.Load.{Bytes, hintsIn, segmentsIn, strictlyInside, useOfValue, cuts, twin, mixedSet, cutUse, loaded, loadWith}
 use Rattle.job.proofs.Premises.{Premises, IsNumber, IsReg, UnitsWithin}
-use Rattle.job.proofs.Lists.{Each, Pairs, sum-length, getD-in, a-member, pair-in}
+use Rattle.job.proofs.Lists.{Each, Pairs, sum-length, a-member, pair-in}
 use Rattle.job.proofs.Units.{units-length, a-unit, same-units, same-self}
 use Rattle.job.proofs.Weights.{neither}
 use Rattle.job.proofs.Fields.{GoodMap, GoodEntry, Follows, GoodFixed, Ahead, GoodVirtReg, Tested, loads-tested}
@@ -193,6 +193,8 @@ module _ (j : Job) (t : Tested j) where
         few-fixed = t .fields .few-fixed;
         few-hints = few-hints;
         few-segments = few-segments;
+        few-own-hints = λ v h. good-virtReg v h .hints .few;
+        small-classes = λ c m. t .fields .classes .each c m .few;
         small-maps = λ r h. good-map r h .small;
         few-units = λ r h. omega (arith, units-length (unitMap j r), good-map r h .few);
         small-fixed = λ e m. t .fields .fixed .each e m .small;
@@ -207,6 +209,7 @@ module _ (j : Job) (t : Tested j) where
           rising = good-rising (segmentsOf j v) (good-virtReg v h .segments .order);
           uncut = not-cut j (t .uncut) (virtReg j v) (virtReg-in v h);
         };
+        slots = λ v h s m. good-virtReg v h .segments .each s m .slots;
         a-segment = λ v h. a-member (segmentsOf j v) (good-virtReg v h .some);
         a-unit = λ r h. a-unit (unitMap j r) (good-map r h .small) (good-map r h .some);
         no-twin = no-twin;

@@ -10,10 +10,10 @@ use Rattle.reg_matrix.specs.declared.Entry.{Entry}
 use Rattle.reg_matrix.specs.declared.FixedIndex.{FixedIndex}
 use Rattle.reg_matrix.specs.declared.Reservation.{Reservation}
 use Rattle.reg_matrix.specs.declared.Reservation.the-variants.{Held, FixedUse, FixedDef}
+use Rattle.reg_matrix.proofs.Members.{getD-in}
 use Rattle.reg_matrix.proofs.Chains.{not-held}
 use Rattle.job.specs.Model.{Job}
 use Rattle.job.proofs.Premises.{Premises}
-use Rattle.job.proofs.Lists.{getD-in}
 use Rattle.matrix.specs.Reserving.{Lain, cleared, reserving}
 use Rattle.matrix.proofs.Loaded.{put, In, reserved-all}
 use Rattle.reader.specs.Read.{FixedAt, useNumber}

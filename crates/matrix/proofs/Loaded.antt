@@ -8,7 +8,7 @@ use mathlib.Core.Bool.{Bool, true, false, _&&_}
 use lib.Dec.{T, eqb}
 use lib.ListN.{length, drop, length-append}
 use borrow.Author.Tests.{eq-eqb, ne-eqb}
-use Rattle.reg_matrix.specs.Lists.{keep, filter, foldl}
+use Rattle.reg_matrix.specs.Lists.{foldl}
 use Rattle.reg_matrix.specs.Table.{Table, isUse, fixedUses, insert, insertAll, freshTable}
 use Rattle.reg_matrix.specs.Layout.{maxEntries, maxFixed, endWord, reservationWord, useValue, useWord}
 use Rattle.reg_matrix.specs.declared.Entry.{Entry}
@@ -16,6 +16,7 @@ use Rattle.reg_matrix.specs.declared.FixedIndex.{FixedIndex}
 use Rattle.reg_matrix.specs.declared.Reservation.{Reservation}
 use Rattle.reg_matrix.specs.declared.Reservation.the-variants.{Held, FixedUse, FixedDef}
 use Rattle.reg_matrix.proofs.Members.{_∈_, fixedUses-in, fixedUses-out}
+use Rattle.reg_matrix.proofs.Places.{filter-append}
 use Rattle.reg_matrix.proofs.Sorted.{Sorted, Parted, OrderedTo, insertAll-sorted, insertAll-out}
 use Rattle.reg_matrix.proofs.Chains.{Chain, Sound, not-held}
 use Rattle.matrix.specs.Moves.{Words, inserting}
@@ -41,15 +42,6 @@ put-use e x l q h =
     rw (q, ne-eqb (x + 1) 0 (λ z. omega arith), k)
 
 -- ---- a front part of what loading tested
-
-filter-append : (p : Entry → Bool) (xs ys : List Entry) → filter p (xs ++ ys) ≡ filter p xs ++ filter p ys
-unfolding filter
-filter-append p [] ys = refl
-filter-append p (x ∷ xs) ys = go (p x) (filter-append p xs ys)
-  where
-    go : (b : Bool) → filter p (xs ++ ys) ≡ filter p xs ++ filter p ys → keep b x (filter p (xs ++ ys)) ≡ keep b x (filter p xs) ++ filter p ys
-    go true ih = ap (λ (l : List Entry). x ∷ l) ih
-    go false ih = ih
 
 chain-front : (xs ys : List Entry) → Chain (xs ++ ys) → Chain xs
 chain-front [] ys h = tt
