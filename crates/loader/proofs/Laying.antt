@@ -2,7 +2,7 @@
 use Prim.Native.Nat.{ℕ, _-_, _≤_}
 use native.Mathlib.Omega.{arith}
 use mathlib.Core.Path.{_≡_, refl, sym, subst, _∙_}
-use mathlib.Core.List.{List, [], _∷_, _++_, map}
+use mathlib.Core.List.{List, [], _∷_, _++_, map, map-id}
 use mathlib.Core.Bool.{Bool, true, false, _||_}
 use lib.Dec.{ltb}
 use lib.Ieee.{Float}
@@ -38,12 +38,8 @@ read-again (Is d z at) {stored} {j} h e =
     subst stored same (h .parts .4)
 
 -- numbers stored as they are, and padded
-map-same : {A : Type 0} (xs : List A) → map (λ (x : A). x) xs ≡ xs
-map-same [] = refl
-map-same {A} (x ∷ xs) = rw (map-same xs)
-
 pub pad-numbers : {A : Type 0} (d : A) {b b′ b″ : List A} {xs : List A} {n : ℕ} (limit : ℕ) → Stored (λ (x : A). x) b 0 xs b′ → length xs ≡ n → b″ ≡ sets b′ n (replicate (limit - n) d) → Laid b (padded limit d xs) b″
-pad-numbers d {b} {b″} {xs} limit h n q = subst (λ (l : List _). Laid b (padded limit d l) b″) (map-same xs) (pad-stored d limit h n q)
+pad-numbers d {b} {b″} {xs} limit h n q = subst (λ (l : List _). Laid b (padded limit d l) b″) (map-id xs) (pad-stored d limit h n q)
 
 -- ---- the sizes lent
 
