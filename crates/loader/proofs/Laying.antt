@@ -1,7 +1,7 @@
 -- What loading leaves in what was lent: the layout of the job, and the tails. Assumes nothing.
-use Prim.Native.Nat.{ℕ, _-_, _≤_}
+use Prim.Native.Nat.{ℕ, _+_, _-_, _≤_}
 use native.Mathlib.Omega.{arith}
-use mathlib.Core.Path.{_≡_, refl, sym, subst, _∙_}
+use mathlib.Core.Path.{_≡_, refl, ap, subst, _∙_}
 use mathlib.Core.List.{List, [], _∷_, _++_, map, map-id}
 use mathlib.Core.Bool.{Bool, true, false, _||_}
 use lib.Dec.{ltb}
@@ -14,8 +14,10 @@ use Rattle.reg_matrix.specs.Refusals.{shortBuffer}
 use Rattle.reg_matrix.specs.Layout.{maxEntries, maxFixed}
 use Rattle.reg_matrix.specs.declared.ValueSegment.{ValueSegment}
 use Rattle.job.specs.declared.Hint.{Hint}
+use Rattle.job.specs.declared.JobHeader.{JobHeader}
 use Rattle.job.specs.Model.{Job, VirtReg, zeroWeight}
-use Rattle.job.specs.Parser.{Parsed, refused, parsed}
+use Rattle.job.specs.Parser.{Parsed, parsed}
+use Rattle.job.specs.Load.{jobFields}
 use Rattle.job.specs.Layout.{JobBuffers, jobBuffers, startsFrom, loadLimits}
 use Rattle.job.proofs.Premises.{Premises}
 use Rattle.matrix.specs.Reserving.{lain}
@@ -23,23 +25,58 @@ use Rattle.matrix.proofs.Loaded.{In}
 use Rattle.reader.specs.declared.whole.TableSizes.{TableSizes}
 use Rattle.reader.specs.declared.whole.JobRead.{JobRead}
 use Rattle.reader.specs.declared.whole.JobRead.the-variants.{Is, Refused}
-use Rattle.reader.specs.Read.{Stored, Laid, allMembers, hintsOfAll, segmentsOfAll, hintStarts, segmentStarts}
-use Rattle.reader.specs.Whole.{SizesOf, JobOut}
+use Rattle.reader.specs.Read.{Stored, Laid, ClassesAt, FixedAt, VirtsAt, HintsAt, SegmentsAt, allMembers, hintsOfAll, segmentsOfAll, hintStarts, segmentStarts}
+use Rattle.reader.specs.Whole.{SizesOf, JobAt, JobOut}
 use Rattle.reader.proofs.Stores.{pad-tail, pad-stored}
 use Rattle.reader.proofs.Tables.{starts-length}
-use Rattle.loader.specs.Loading.{Lent, lent, jobLent, sizesOf, JobLaid, later}
+use Rattle.loader.specs.Loading.{Lent, jobLent, sizesOf, JobLaid, Stores, later}
+use Rattle.loader.proofs.Testing.{regs-many, classes-many, virts-many}
 
 -- ---- a second reading finds the same job
 
-pub read-again : {s : List ℕ} {p : Parsed Job} (r : JobRead) {stored : Job → Type 0} {j : Job} {t : List ℕ} → JobOut s p r stored → p ≡ parsed j t → stored j
+read-again : {s : List ℕ} {p : Parsed Job} (r : JobRead) {stored : Job → Type 0} {j : Job} {t : List ℕ} → JobOut s p r stored → p ≡ parsed j t → stored j
 read-again (Refused n) h e = absurd (let q = h .parts in let z : _≡_ {A = ℕ} 0 1 = cc in omega arith)
 read-again (Is d z at) {stored} {j} h e =
     let same : h .parts .0 ≡ j = let q = h .parts .1 in cc in
     subst stored same (h .parts .4)
 
 -- numbers stored as they are, and padded
-pub pad-numbers : {A : Type 0} (d : A) {b b′ b″ : List A} {xs : List A} {n : ℕ} (limit : ℕ) → Stored (λ (x : A). x) b 0 xs b′ → length xs ≡ n → b″ ≡ sets b′ n (replicate (limit - n) d) → Laid b (padded limit d xs) b″
+pad-numbers : {A : Type 0} (d : A) {b b′ b″ : List A} {xs : List A} {n : ℕ} (limit : ℕ) → Stored (λ (x : A). x) b 0 xs b′ → length xs ≡ n → b″ ≡ sets b′ n (replicate (limit - n) d) → Laid b (padded limit d xs) b″
 pad-numbers d {b} {b″} {xs} limit h n q = subst (λ (l : List _). Laid b (padded limit d l) b″) (map-id xs) (pad-stored d limit h n q)
+
+-- every table stored and padded
+module _ {s : List ℕ} {h : JobHeader} {y : TableSizes} {x : JobRead}
+    {r r′ r″ b b′ b″ m m′ m″ n f t u n′ f′ t′ u′ k k′ k″ g g′ g″ z z′ z″ i i′ i″ l l′ l″ d d′ d″ o o′ o″ p p′ p″ q q′ q″ : List ℕ} {v v′ v″ e e′ e″ : List Float}
+    (out : JobOut s (jobFields s) x (JobAt (λ rs. Stored (λ (x : ℕ). x) r 0 rs r′) (ClassesAt b m b′ m′) (FixedAt n f t u n′ f′ t′ u′) (VirtsAt k g v z i l k′ g′ v′ z′ i′ l′) (HintsAt 0 d e d′ e′) (SegmentsAt 0 o p q o′ p′ q′)))
+    (regs : (r″ ≡ sets r′ (h .regs) (replicate (64 - h .regs) 0)) × ((b″ ≡ sets b′ (h .classes + 1) (replicate (17 - (h .classes + 1)) 0)) × (m″ ≡ sets m′ (y .«class_regs») (replicate (1024 - y .«class_regs») 0))))
+    (virts : (k″ ≡ sets k′ (h .«virt_regs») (replicate (512 - h .«virt_regs») 0)) × ((g″ ≡ sets g′ (h .«virt_regs») (replicate (512 - h .«virt_regs») 0)) × ((v″ ≡ sets v′ (h .«virt_regs») (replicate (512 - h .«virt_regs») zeroWeight)) × ((z″ ≡ sets z′ (h .«virt_regs») (replicate (512 - h .«virt_regs») 0)) × ((i″ ≡ sets i′ (h .«virt_regs» + 1) (replicate (513 - (h .«virt_regs» + 1)) 0)) × (l″ ≡ sets l′ (h .«virt_regs» + 1) (replicate (513 - (h .«virt_regs» + 1)) 0)))))))
+    (lists : (d″ ≡ sets d′ (y .hints) (replicate (1024 - y .hints) 0)) × ((e″ ≡ sets e′ (y .hints) (replicate (1024 - y .hints) zeroWeight)) × ((o″ ≡ sets o′ (y .segments) (replicate (512 - y .segments) 0)) × ((p″ ≡ sets p′ (y .segments) (replicate (512 - y .segments) 0)) × (q″ ≡ sets q′ (y .segments) (replicate (512 - y .segments) 0))))))
+  where
+    pub stores-all : Stores s h y (jobLent r b m [] k g v z i d e l o p q) (jobLent r″ b″ m″ [] k″ g″ v″ z″ i″ d″ e″ l″ o″ p″ q″)
+    unfolding jobBuffers
+    stores-all =
+        record {
+          laid = λ j t w c a.
+              let st = read-again x out w in
+              let one : length (j .classes) + 1 ≡ h .classes + 1 = ap (λ (n : ℕ). n + 1) (classes-many j c) in
+              let next : length (j .virtRegs) + 1 ≡ h .«virt_regs» + 1 = ap (λ (n : ℕ). n + 1) (virts-many j c) in
+              record {
+                regs = pad-numbers 0 64 (st .regs) (regs-many j c) (regs .0);
+                classStarts = pad-numbers 0 17 (st .classes .starts) (starts-length length 0 (j .classes) ∙ one) (regs .1 .0);
+                classRegs = pad-numbers 0 1024 (st .classes .members) (a .classRegs) (regs .1 .1);
+                classes = pad-stored 0 512 (st .virtRegs .classes) (virts-many j c) (virts .0);
+                valueSets = pad-stored 0 512 (st .virtRegs .valueSets) (virts-many j c) (virts .1 .0);
+                spillWeights = pad-stored zeroWeight 512 (st .virtRegs .spillWeights) (virts-many j c) (virts .1 .1 .0);
+                sizes = pad-stored 0 512 (st .virtRegs .sizes) (virts-many j c) (virts .1 .1 .1 .0);
+                hintStarts = pad-numbers 0 513 (st .virtRegs .hints) (starts-length (λ (v : VirtReg). length (v .hints)) 0 (j .virtRegs) ∙ next) (virts .1 .1 .1 .1 .0);
+                hintRegs = pad-stored 0 1024 (st .hints .regs) (a .hints) (lists .0);
+                hintWeights = pad-stored zeroWeight 1024 (st .hints .weights) (a .hints) (lists .1 .0);
+                segmentStarts = pad-numbers 0 513 (st .virtRegs .segments) (starts-length (λ (v : VirtReg). length (v .segments)) 0 (j .virtRegs) ∙ next) (virts .1 .1 .1 .1 .1);
+                froms = pad-stored 0 512 (st .segments .froms) (a .segments) (lists .1 .1 .0);
+                tos = pad-stored 0 512 (st .segments .tos) (a .segments) (lists .1 .1 .1 .0);
+                values = pad-stored 0 512 (st .segments .values) (a .segments) (lists .1 .1 .1 .1);
+              };
+        }
 
 -- ---- the sizes lent
 

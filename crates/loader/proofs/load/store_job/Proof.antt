@@ -1,13 +1,6 @@
 use borrow.Author.Needs.{needs}
-use Prim.Native.Nat.{ℕ, _+_}
-use mathlib.Core.Path.{ap, _∙_}
-use lib.ListN.{length}
-use Rattle.job.specs.Model.{VirtReg, zeroWeight}
-use Rattle.job.specs.Layout.{jobBuffers}
-use Rattle.reader.proofs.Stores.{pad-stored}
-use Rattle.reader.proofs.Tables.{starts-length}
-use Rattle.loader.proofs.Testing.{regs-many, classes-many, virts-many}
-use Rattle.loader.proofs.Laying.{read-again, pad-numbers}
+use mathlib.Core.Path.{_∙_}
+use Rattle.loader.proofs.Laying.{stores-all}
 use Rattle.loader.proofs.load.store_job.Statement.{statement}
 use Rattle.loader.proofs.load.store_job.Tie as tie
 
@@ -78,28 +71,7 @@ same-length-14 : tie.Need-same-length-14
 same-length-14 c = c .before .values2 .given ∙ c .before .before .before .before .before .before .before .before .before .before .before .before .before .before .before .before .before .before .before .before .before .before .before .before .before .before .before .before .before .before .before .before .before .before .before .before .before .before .before .before .before .before .before .before .before .before .values .given
 
 returns : tie.Need-returns
-unfolding jobBuffers
-returns c =
-    record {
-      laid = λ j t e d z.
-          let a = read-again _ (c .before .before .before .before .before .before .before .before .before .before .before .before .before .before .before .before .before .before .before .before .before .before .before .before .before .before .before .before .before .before .before .before .before .before .before .before .before .before .before .before .before .before .before .before .before .before .before .before .before .before .before .before .before .before .before .before .before .before .before .before .before .before .before .before .before .before .before .before .before .before .before .before .before .before .before .before .before .job-fields .ensures) e in
-          record {
-            regs = pad-numbers 0 64 (a .regs) (regs-many j d) (c .before .before .before .before .before .before .before .before .before .before .before .before .before .before .before .before .before .before .before .before .before .before .before .before .before .before .before .before .before .before .before .before .before .before .before .before .before .before .before .before .before .pad-regs .ensures .0);
-            classStarts = pad-numbers 0 17 (a .classes .starts) (starts-length length 0 (j .classes) ∙ ap (λ (n : ℕ). n + 1) (classes-many j d)) (c .before .before .before .before .before .before .before .before .before .before .before .before .before .before .before .before .before .before .before .before .before .before .before .before .before .before .before .before .before .before .before .before .before .before .before .before .before .before .before .before .before .pad-regs .ensures .1 .0);
-            classRegs = pad-numbers 0 1024 (a .classes .members) (z .classRegs) (c .before .before .before .before .before .before .before .before .before .before .before .before .before .before .before .before .before .before .before .before .before .before .before .before .before .before .before .before .before .before .before .before .before .before .before .before .before .before .before .before .before .pad-regs .ensures .1 .1);
-            classes = pad-stored 0 512 (a .virtRegs .classes) (virts-many j d) (c .before .before .before .before .before .before .before .before .before .before .before .before .before .before .before .before .before .before .before .before .before .before .before .before .before .before .before .before .pad-virts .ensures .0);
-            valueSets = pad-stored 0 512 (a .virtRegs .valueSets) (virts-many j d) (c .before .before .before .before .before .before .before .before .before .before .before .before .before .before .before .before .before .before .before .before .before .before .before .before .before .before .before .before .pad-virts .ensures .1 .0);
-            spillWeights = pad-stored zeroWeight 512 (a .virtRegs .spillWeights) (virts-many j d) (c .before .before .before .before .before .before .before .before .before .before .before .before .before .before .before .before .before .before .before .before .before .before .before .before .before .before .before .before .pad-virts .ensures .1 .1 .0);
-            sizes = pad-stored 0 512 (a .virtRegs .sizes) (virts-many j d) (c .before .before .before .before .before .before .before .before .before .before .before .before .before .before .before .before .before .before .before .before .before .before .before .before .before .before .before .before .pad-virts .ensures .1 .1 .1 .0);
-            hintStarts = pad-numbers 0 513 (a .virtRegs .hints) (starts-length (λ (v : VirtReg). length (v .hints)) 0 (j .virtRegs) ∙ ap (λ (n : ℕ). n + 1) (virts-many j d)) (c .before .before .before .before .before .before .before .before .before .before .before .before .before .before .before .before .before .before .before .before .before .before .before .before .before .before .before .before .pad-virts .ensures .1 .1 .1 .1 .0);
-            hintRegs = pad-stored 0 1024 (a .hints .regs) (z .hints) (c .before .before .before .before .before .before .before .before .before .before .pad-lists .ensures .0);
-            hintWeights = pad-stored zeroWeight 1024 (a .hints .weights) (z .hints) (c .before .before .before .before .before .before .before .before .before .before .pad-lists .ensures .1 .0);
-            segmentStarts = pad-numbers 0 513 (a .virtRegs .segments) (starts-length (λ (v : VirtReg). length (v .segments)) 0 (j .virtRegs) ∙ ap (λ (n : ℕ). n + 1) (virts-many j d)) (c .before .before .before .before .before .before .before .before .before .before .before .before .before .before .before .before .before .before .before .before .before .before .before .before .before .before .before .before .pad-virts .ensures .1 .1 .1 .1 .1);
-            froms = pad-stored 0 512 (a .segments .froms) (z .segments) (c .before .before .before .before .before .before .before .before .before .before .pad-lists .ensures .1 .1 .0);
-            tos = pad-stored 0 512 (a .segments .tos) (z .segments) (c .before .before .before .before .before .before .before .before .before .before .pad-lists .ensures .1 .1 .1 .0);
-            values = pad-stored 0 512 (a .segments .values) (z .segments) (c .before .before .before .before .before .before .before .before .before .before .pad-lists .ensures .1 .1 .1 .1);
-          };
-    }
+returns c = stores-all (c .before .before .before .before .before .before .before .before .before .before .before .before .before .before .before .before .before .before .before .before .before .before .before .before .before .before .before .before .before .before .before .before .before .before .before .before .before .before .before .before .before .before .before .before .before .before .before .before .before .before .before .before .before .before .before .before .before .before .before .before .before .before .before .before .before .before .before .before .before .before .before .before .before .before .before .before .before .job-fields .ensures) (c .before .before .before .before .before .before .before .before .before .before .before .before .before .before .before .before .before .before .before .before .before .before .before .before .before .before .before .before .before .before .before .before .before .before .before .before .before .before .before .before .before .pad-regs .ensures) (c .before .before .before .before .before .before .before .before .before .before .before .before .before .before .before .before .before .before .before .before .before .before .before .before .before .before .before .before .pad-virts .ensures) (c .before .before .before .before .before .before .before .before .before .before .pad-lists .ensures)
 
 pub store-job-spec : {M : Type 1} → statement M
 store-job-spec =

@@ -1,11 +1,8 @@
 use borrow.Author.Needs.{needs}
-use Prim.Native.Nat.{ℕ, _≤_}
+use Prim.Native.Nat.{ℕ}
 use native.Mathlib.Omega.{arith}
-use mathlib.Core.Path.{_≡_, sym, _∙_}
-use mathlib.Core.List.{List}
-use lib.ListN.{length, length-replicate}
-use Rattle.job.proofs.Fields.{fields-good}
-use Rattle.loader.proofs.Testing.{nothing-left, something-left, fields-refuse, fields-refuse-tail, tested-all, tested-one, numbers-are}
+use lib.ListN.{length-replicate}
+use Rattle.loader.proofs.Testing.{fields-out, tail-out, none-out, one-out}
 use Rattle.loader.proofs.load.tested.Statement.{statement}
 use Rattle.loader.proofs.load.tested.Tie as tie
 
@@ -73,9 +70,7 @@ same-length-4 : tie.Need-same-length-4
 same-length-4 c = c .before .before .before .before .before .before .before .before .before .before .before .before .before .before .before .before .uses .given
 
 returns : tie.Need-returns
-returns c =
-    let o = rw (c .before .before .h .given .1) at (c .before .before .before .before .before .before .before .before .before .before .before .before .before .before .before .before .before .before .before .before .before .before .before .before .before .before .job-fields .ensures) in
-    record { parts = fields-refuse-tail _ (o .parts .1) (something-left _ _ (c .if1 .taken)) }
+returns c = tail-out _ (rw (c .before .before .h .given .1) at (c .before .before .before .before .before .before .before .before .before .before .before .before .before .before .before .before .before .before .before .before .before .before .before .before .before .before .job-fields .ensures)) (c .if1 .taken)
 
 slice-aggregate-whole-refusal : tie.Need-slice-aggregate-whole-refusal
 slice-aggregate-whole-refusal c = search needs
@@ -117,11 +112,7 @@ same-length-8 : tie.Need-same-length-8
 same-length-8 c = c .before .before .before .before .before .before .before .before .before .before .before .before .before .before .before .before .before .before .before .before .before .before .before .before .before .before .before .before .before .uses .given
 
 returns-2 : tie.Need-returns-2
-returns-2 c =
-    let o = rw (c .before .before .before .before .before .before .before .before .before .before .before .before .before .before .before .h .given .1) at (c .before .before .before .before .before .before .before .before .before .before .before .before .before .before .before .before .before .before .before .before .before .before .before .before .before .before .before .before .before .before .before .before .before .before .before .before .before .before .before .job-fields .ensures) in
-    let a = o .parts .4 in
-    let w = sym (numbers-are (o .parts .0) _ _ (fields-good _ (λ i. c .before .before .before .before .before .before .before .before .before .before .before .before .before .before .before .before .before .before .before .before .before .before .before .before .before .before .before .before .before .before .before .before .before .before .before .before .before .before .before .before .before .before .before .before .before .before .before .before .before .before .before .before .before .before .before .before .before .before .before .before .before .before .shared-slice-known .given i .fits) (o .parts .1)) (o .parts .2) (o .parts .3) (a .regs) (a .classes) (a .fixed) (a .virtRegs .classes) (a .virtRegs .valueSets) (a .segments) (omega (arith, length-replicate {A = ℕ} 64 0)) (omega (arith, length-replicate {A = ℕ} 17 0)) (omega (arith, length-replicate {A = ℕ} 1024 0)) (c .before .before .before .before .before .before .before .before .before .before .before .before .before .before .before .before .before .before .before .before .before .before .before .before .before .before .before .before .before .before .before .before .before .before .before .before .before .before .before .before .before .before .before .before .before .before .before .before .before .before .before .before .before .before .before .before .before .before .before .before .before .before .before .pre) (omega (arith, length-replicate {A = ℕ} 512 0)) (omega (arith, length-replicate {A = ℕ} 512 0)) (omega (arith, length-replicate {A = ℕ} 512 0), omega (arith, length-replicate {A = ℕ} 512 0), omega (arith, length-replicate {A = ℕ} 512 0))) ∙ sym (c .before .whole-refusal .ensures) in
-    record { parts = (o .parts .0, _, tested-all _ (o .parts .1) (nothing-left _ _ (c .before .before .before .before .before .before .before .before .before .before .before .before .before .if1 .left)) (w ∙ c .if2 .taken), o .parts .2, o .parts .3, a .fixed) }
+returns-2 c = none-out _ (λ i. c .before .before .before .before .before .before .before .before .before .before .before .before .before .before .before .before .before .before .before .before .before .before .before .before .before .before .before .before .before .before .before .before .before .before .before .before .before .before .before .before .before .before .before .before .before .before .before .before .before .before .before .before .before .before .before .before .before .before .before .before .before .before .shared-slice-known .given i .fits) (rw (c .before .before .before .before .before .before .before .before .before .before .before .before .before .before .before .h .given .1) at (c .before .before .before .before .before .before .before .before .before .before .before .before .before .before .before .before .before .before .before .before .before .before .before .before .before .before .before .before .before .before .before .before .before .before .before .before .before .before .before .job-fields .ensures)) (omega (arith, length-replicate {A = ℕ} 64 0)) (omega (arith, length-replicate {A = ℕ} 17 0)) (omega (arith, length-replicate {A = ℕ} 1024 0)) (c .before .before .before .before .before .before .before .before .before .before .before .before .before .before .before .before .before .before .before .before .before .before .before .before .before .before .before .before .before .before .before .before .before .before .before .before .before .before .before .before .before .before .before .before .before .before .before .before .before .before .before .before .before .before .before .before .before .before .before .before .before .before .before .pre) (omega (arith, length-replicate {A = ℕ} 512 0)) (omega (arith, length-replicate {A = ℕ} 512 0)) (omega (arith, length-replicate {A = ℕ} 512 0), omega (arith, length-replicate {A = ℕ} 512 0), omega (arith, length-replicate {A = ℕ} 512 0)) (c .before .before .before .before .before .before .before .before .before .before .before .before .before .if1 .left) (c .before .whole-refusal .ensures) (c .if2 .taken)
 
 same-length-9 : tie.Need-same-length-9
 same-length-9 c = c .before .before .before .before .before .before .before .before .before .before .before .before .before .before .before .before .before .before .before .before .before .units .given
@@ -136,7 +127,7 @@ same-length-12 : tie.Need-same-length-12
 same-length-12 c = c .before .before .before .before .before .before .before .before .before .before .before .before .before .before .before .uses .given
 
 returns-3 : tie.Need-returns-3
-returns-3 c = record { parts = fields-refuse _ ((rw (c .before .n .given .1) at (c .before .before .before .before .before .before .before .before .before .before .before .before .before .before .before .before .before .before .before .before .before .before .before .before .before .job-fields .ensures)) .parts) }
+returns-3 c = fields-out _ (rw (c .before .n .given .1) at (c .before .before .before .before .before .before .before .before .before .before .before .before .before .before .before .before .before .before .before .before .before .before .before .before .before .job-fields .ensures))
 
 same-length-13 : tie.Need-same-length-13
 same-length-13 c = c .before .before .before .before .before .before .before .before .before .before .before .before .before .before .before .before .before .before .before .before .before .before .before .before .before .before .before .before .before .before .before .before .before .before .before .units .given
@@ -151,11 +142,7 @@ same-length-16 : tie.Need-same-length-16
 same-length-16 c = c .before .before .before .before .before .before .before .before .before .before .before .before .before .before .before .before .before .before .before .before .before .before .before .before .before .before .before .before .before .uses .given
 
 returns-4 : tie.Need-returns-4
-returns-4 c =
-    let o = rw (c .before .before .before .before .before .before .before .before .before .before .before .before .before .before .before .h .given .1) at (c .before .before .before .before .before .before .before .before .before .before .before .before .before .before .before .before .before .before .before .before .before .before .before .before .before .before .before .before .before .before .before .before .before .before .before .before .before .before .before .job-fields .ensures) in
-    let a = o .parts .4 in
-    let w = sym (numbers-are (o .parts .0) _ _ (fields-good _ (λ i. c .before .before .before .before .before .before .before .before .before .before .before .before .before .before .before .before .before .before .before .before .before .before .before .before .before .before .before .before .before .before .before .before .before .before .before .before .before .before .before .before .before .before .before .before .before .before .before .before .before .before .before .before .before .before .before .before .before .before .before .before .before .before .shared-slice-known .given i .fits) (o .parts .1)) (o .parts .2) (o .parts .3) (a .regs) (a .classes) (a .fixed) (a .virtRegs .classes) (a .virtRegs .valueSets) (a .segments) (omega (arith, length-replicate {A = ℕ} 64 0)) (omega (arith, length-replicate {A = ℕ} 17 0)) (omega (arith, length-replicate {A = ℕ} 1024 0)) (c .before .before .before .before .before .before .before .before .before .before .before .before .before .before .before .before .before .before .before .before .before .before .before .before .before .before .before .before .before .before .before .before .before .before .before .before .before .before .before .before .before .before .before .before .before .before .before .before .before .before .before .before .before .before .before .before .before .before .before .before .before .before .before .pre) (omega (arith, length-replicate {A = ℕ} 512 0)) (omega (arith, length-replicate {A = ℕ} 512 0)) (omega (arith, length-replicate {A = ℕ} 512 0), omega (arith, length-replicate {A = ℕ} 512 0), omega (arith, length-replicate {A = ℕ} 512 0))) ∙ sym (c .before .whole-refusal .ensures) in
-    record { parts = tested-one _ (o .parts .1) (nothing-left _ _ (c .before .before .before .before .before .before .before .before .before .before .before .before .before .if1 .left)) w (c .if2 .left) }
+returns-4 c = one-out _ (λ i. c .before .before .before .before .before .before .before .before .before .before .before .before .before .before .before .before .before .before .before .before .before .before .before .before .before .before .before .before .before .before .before .before .before .before .before .before .before .before .before .before .before .before .before .before .before .before .before .before .before .before .before .before .before .before .before .before .before .before .before .before .before .before .shared-slice-known .given i .fits) (rw (c .before .before .before .before .before .before .before .before .before .before .before .before .before .before .before .h .given .1) at (c .before .before .before .before .before .before .before .before .before .before .before .before .before .before .before .before .before .before .before .before .before .before .before .before .before .before .before .before .before .before .before .before .before .before .before .before .before .before .before .job-fields .ensures)) (omega (arith, length-replicate {A = ℕ} 64 0)) (omega (arith, length-replicate {A = ℕ} 17 0)) (omega (arith, length-replicate {A = ℕ} 1024 0)) (c .before .before .before .before .before .before .before .before .before .before .before .before .before .before .before .before .before .before .before .before .before .before .before .before .before .before .before .before .before .before .before .before .before .before .before .before .before .before .before .before .before .before .before .before .before .before .before .before .before .before .before .before .before .before .before .before .before .before .before .before .before .before .before .pre) (omega (arith, length-replicate {A = ℕ} 512 0)) (omega (arith, length-replicate {A = ℕ} 512 0)) (omega (arith, length-replicate {A = ℕ} 512 0), omega (arith, length-replicate {A = ℕ} 512 0), omega (arith, length-replicate {A = ℕ} 512 0)) (c .before .before .before .before .before .before .before .before .before .before .before .before .before .if1 .left) (c .before .whole-refusal .ensures) (c .if2 .left)
 
 pub tested-spec : {M : Type 1} → statement M
 tested-spec =
