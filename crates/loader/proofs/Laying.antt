@@ -18,15 +18,15 @@ use Rattle.job.specs.declared.JobHeader.{JobHeader}
 use Rattle.job.specs.Model.{Job, VirtReg, zeroWeight}
 use Rattle.job.specs.Parser.{Parsed, parsed}
 use Rattle.job.specs.Load.{jobFields}
-use Rattle.job.specs.Layout.{JobBuffers, jobBuffers, startsFrom, loadLimits}
+use Rattle.job.specs.Layout.{jobBuffers, startsFrom, loadLimits}
 use Rattle.job.proofs.Premises.{Premises}
 use Rattle.matrix.specs.Reserving.{lain}
 use Rattle.matrix.proofs.Loaded.{In}
-use Rattle.reader.specs.declared.whole.TableSizes.{TableSizes}
-use Rattle.reader.specs.declared.whole.JobRead.{JobRead}
-use Rattle.reader.specs.declared.whole.JobRead.the-variants.{Is, Refused}
+use Rattle.fields.specs.declared.whole.TableSizes.{TableSizes}
+use Rattle.fields.specs.declared.whole.JobRead.{JobRead}
+use Rattle.fields.specs.declared.whole.JobRead.the-variants.{Is, Refused}
 use Rattle.reader.specs.Read.{Stored, Laid, ClassesAt, FixedAt, VirtsAt, HintsAt, SegmentsAt, allMembers, hintsOfAll, segmentsOfAll, hintStarts, segmentStarts}
-use Rattle.reader.specs.Whole.{SizesOf, JobAt, JobOut}
+use Rattle.fields.specs.Whole.{SizesOf, JobAt, JobOut}
 use Rattle.reader.proofs.Stores.{pad-tail, pad-stored}
 use Rattle.reader.proofs.Tables.{starts-length}
 use Rattle.loader.specs.Loading.{Lent, jobLent, sizesOf, JobLaid, Stores, later}

@@ -18,11 +18,10 @@ use Rattle.job.specs.Layout.{JobBuffers, loadLimits, headerOf}
 use Rattle.job.proofs.Loads.{loads-premises}
 use Rattle.matrix.specs.Reserving.{Lain, lain, cleared}
 use Rattle.matrix.proofs.Loaded.{In}
-use Rattle.reader.specs.declared.whole.TableSizes.{TableSizes}
+use Rattle.fields.specs.declared.whole.TableSizes.{TableSizes}
 use Rattle.reader.specs.Read.{FixedAt}
-use Rattle.reader.specs.Whole.{SizesOf}
+use Rattle.fields.specs.Whole.{SizesOf}
 use Rattle.loader.specs.Loading.{jobLent, Lent, sizesOf, testedJob, JobLaid, Stores, reservingAll, later, LoadDone}
-use Rattle.loader.specs.declared.load.JobLoaded.{JobLoaded}
 use Rattle.loader.specs.declared.load.JobLoaded.the-variants.{Is, Refused}
 use Rattle.loader.proofs.Reserves.{reserved-job}
 use Rattle.loader.proofs.Laying.{room, all-later}

@@ -1,12 +1,11 @@
 -- The fixed reservations of a job from their slices: after them the fresh table stands. Assumes nothing.
-use Prim.Native.Nat.{ℕ, _+_, _≤_, _<_}
+use Prim.Native.Nat.{ℕ, _≤_, _<_}
 use native.Mathlib.Omega.{arith}
-use mathlib.Core.Path.{_≡_, refl, ap, sym, subst, _∙_}
+use mathlib.Core.Path.{_≡_, refl, ap, _∙_}
 use mathlib.Core.List.{List}
 use lib.ListN.{length, drop, getD}
 use Rattle.reg_matrix.specs.Lists.{foldl, count}
 use Rattle.reg_matrix.specs.Layout.{maxEntries, maxFixed, reservationWord}
-use Rattle.reg_matrix.specs.declared.Entry.{Entry}
 use Rattle.reg_matrix.specs.declared.FixedIndex.{FixedIndex}
 use Rattle.reg_matrix.specs.declared.Reservation.{Reservation}
 use Rattle.reg_matrix.specs.declared.Reservation.the-variants.{Held, FixedUse, FixedDef}
@@ -18,8 +17,8 @@ use Rattle.matrix.specs.Reserving.{Lain, cleared, reserving}
 use Rattle.matrix.proofs.Loaded.{put, In, reserved-all}
 use Rattle.reader.specs.Read.{FixedAt, useNumber}
 use Rattle.loader.specs.Loading.{reservingAll}
-use Rattle.loader.proofs.Places.{fold-at}
-use Rattle.loader.proofs.WholeTests.{noEntry, stored-at}
+use Rattle.job_tests.proofs.Places.{fold-at}
+use Rattle.job_tests.proofs.WholeTests.{noEntry, stored-at}
 
 word-is : (r : Reservation) → ((v : ℕ) (i : FixedIndex) → r ≡ Held v i → ⊥) → useNumber r ≡ reservationWord r
 word-is (Held v i) h = absurd (h v i refl)

@@ -11,19 +11,19 @@ use Rattle.reg_matrix.specs.Lists.{any, anyPair, count, isNil}
 use Rattle.reg_matrix.specs.declared.Entry.{Entry}
 use Rattle.job.specs.declared.JobHeader.{JobHeader}
 use Rattle.job.specs.Model.{VirtReg, Job}
-use Rattle.job.specs.Parser.{Parsed, refused, parsed, _>>_, done, refuse}
+use Rattle.job.specs.Parser.{refused, parsed, _>>_, done, refuse}
 use Rattle.job.specs.Load.{Bytes, jobFields, twin, mixedSet, cutUse}
 use Rattle.job.specs.Layout.{headerOf}
 use Rattle.job.proofs.Fields.{GoodJob, fields-good}
-use Rattle.reader.specs.declared.whole.TableSizes.{TableSizes}
-use Rattle.reader.specs.declared.whole.JobRead.the-variants.{Is, Refused}
+use Rattle.fields.specs.declared.whole.TableSizes.{TableSizes}
+use Rattle.fields.specs.declared.whole.JobRead.the-variants.{Is, Refused}
 use Rattle.reader.specs.Read.{Stored, ClassesAt, FixedAt, VirtsAt, HintsAt, SegmentsAt, allMembers, segmentsOfAll}
-use Rattle.reader.specs.Whole.{SizesOf, JobAt, JobOut}
+use Rattle.fields.specs.Whole.{SizesOf, JobAt, JobOut}
 use Rattle.reader.proofs.Tables.{segmentsIn-length}
-use Rattle.loader.specs.Tests.{equalAt, memberTwice, classesDiffer, crossesAt, wholeNumber}
+use Rattle.job_tests.specs.Tests.{equalAt, memberTwice, classesDiffer, crossesAt, wholeNumber}
 use Rattle.loader.specs.Loading.{testedJob, TestedOut}
 use Rattle.loader.specs.declared.load.JobTested.the-variants.{Is as IsTested, Refused as NotTested}
-use Rattle.loader.proofs.WholeTests.{twin-is, mixed-is, cut-is}
+use Rattle.job_tests.proofs.WholeTests.{twin-is, mixed-is, cut-is}
 
 -- ---- the tail
 

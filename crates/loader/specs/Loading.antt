@@ -15,9 +15,9 @@ use Rattle.job.specs.Parser.{Parser, Parsed, refused, parsed, _>>=_, _>>_, done
 use Rattle.job.specs.Load.{jobFields, twin, mixedSet, cutUse, Loaded, notLoaded, loaded, loadWith}
 use Rattle.job.specs.Layout.{JobBuffers, jobBuffers, loadLimits, headerOf}
 use Rattle.matrix.specs.Reserving.{Lain, reserving}
-use Rattle.reader.specs.declared.whole.TableSizes.{TableSizes}
+use Rattle.fields.specs.declared.whole.TableSizes.{TableSizes}
 use Rattle.reader.specs.Read.{Laid}
-use Rattle.reader.specs.Whole.{SizesOf}
+use Rattle.fields.specs.Whole.{SizesOf}
 use Rattle.loader.specs.declared.load.JobTested.{JobTested}
 use Rattle.loader.specs.declared.load.JobTested.the-variants.{Is as IsTested, Refused as NotTested}
 use Rattle.loader.specs.declared.load.JobLoaded.{JobLoaded}

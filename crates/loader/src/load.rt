@@ -11,11 +11,11 @@ use crate::buffers::pad_virts;
 use crate::buffers::short_lists;
 use crate::buffers::short_tables;
 use crate::reserve::reserve_all;
-use crate::tests::whole_refusal;
+use fields::whole::JobRead;
+use fields::whole::TableSizes;
+use fields::whole::job_fields;
 use job::JobHeader;
-use reader::whole::JobRead;
-use reader::whole::TableSizes;
-use reader::whole::job_fields;
+use job_tests::tests::whole_refusal;
 
 // What the first reading found: what goes by value of the job, and the sizes of its tables; or a refusal's number.
 pub enum JobTested {

@@ -1,6 +1,5 @@
 pub mod Answers
 pub mod Reading
 pub mod Stores
-pub mod WeightBits
 pub mod Tables
-pub mod Joined
+pub mod Starts

@@ -4,7 +4,7 @@ use native.Mathlib.Omega.{arith}
 use mathlib.Core.Path.{_≡_, refl, ap, sym, _∙_}
 use mathlib.Core.List.{List, [], _∷_, _++_, map, append-assoc, append-nil}
 use mathlib.Core.Bool.{Bool, true, false, cond, Bool·beq}
-use lib.Dec.{leb, eqb}
+use lib.Dec.{eqb}
 use lib.ListN.{length, getD, set, replicate, length-set, length-append}
 use lib.Seq.{sets, getD-set-same, getD-set-other, set-set}
 use borrow.Author.Tests.{eqb-true, eqb-false}
@@ -15,12 +15,11 @@ use Rattle.job.specs.declared.Hint.{Hint}
 use Rattle.job.specs.declared.FixedFields.{FixedFields}
 use Rattle.job.specs.declared.VirtRegFields.{VirtRegFields}
 use Rattle.job.specs.Model.{VirtReg}
-use Rattle.job.specs.Parser.{Parser, Parsed, refused, parsed, ifBit, andThen, each, little}
-use Rattle.job.specs.Load.{countOf, register, class, jobFields, pastOf, lastEnd, fixedFields, fixedTests, reservation, hintsIn, segmentsIn, virtRegFields, hints, segments, virtRegAt}
+use Rattle.job.specs.Parser.{Parser, Parsed, refused, parsed, ifBit, andThen, each}
+use Rattle.job.specs.Load.{countOf, class, pastOf, lastEnd, fixedFields, fixedTests, reservation, hintsIn, segmentsIn, virtRegFields, hints, segments, virtRegAt}
 use Rattle.job.specs.Layout.{startsFrom}
-use Rattle.reader.specs.Read.{Stored, reservationAfter, tableOf, hintsOfAll, segmentsOfAll}
+use Rattle.reader.specs.Read.{Stored, reservationAfter, hintsOfAll, segmentsOfAll}
 use Rattle.reg_matrix.specs.Lists.{bit}
-use Rattle.reader.specs.Whole.{restOf}
 use Rattle.job.proofs.Lists.{foldl-more, sum-length}
 
 -- ---- one more at the end
@@ -155,18 +154,3 @@ hintsIn-length vs = sum-length (λ (v : VirtReg). v .hints) 0 vs ∙ omega arith
 pub segmentsIn-length : (vs : List VirtReg) → segmentsIn vs ≡ length (segmentsOfAll vs)
 unfolding segmentsIn
 segmentsIn-length vs = sum-length (λ (v : VirtReg). v .segments) 0 vs ∙ omega arith
-
--- ---- the job
-
-module _ (l : List ℕ) {l₁ l₂ l₃ l₄ : List ℕ} {m r : ℕ} {rs : List ℕ} {cs : List (List ℕ)} {es : List Entry} where
-  -- what is left after the first tables
-  pub first-is :
-      little 1 l ≡ parsed m l₁
-      → leb 64 m ≡ false
-      → tableOf (bit 0 m) 1 64 (λ before. register) l₁ ≡ parsed rs l₂
-      → length rs ≡ r
-      → tableOf (bit 1 m) 1 16 (λ before. class r) l₂ ≡ parsed cs l₃
-      → tableOf (bit 2 m) 2 512 reservation l₃ ≡ parsed es l₄
-      → jobFields l ≡ restOf m rs cs es l₄
-  unfolding jobFields restOf
-  first-is e t e₁ n e₂ e₃ = rw (e, t, e₁, n, e₂, e₃)

@@ -1,7 +1,5 @@
-// Reading a job: its fields and tables from bytes into lent numbers, each as the parsers of the crate job say.
+// Reading a job: its numbers, registers, classes and fixed reservations from bytes into lent numbers, each as the parsers of the crate job say.
 
-mod fixed;
-mod read;
-mod regs;
-mod virt;
-pub mod whole;
+pub mod fixed;
+pub mod read;
+pub mod regs;

@@ -1,4 +1,3 @@
-use borrow.Author.Needs.{needs}
 use borrow.Author.Tests.{lt-ltb, le-ltb}
 use Rattle.loader.proofs.buffers.short_tables.Statement.{statement}
 use Rattle.loader.proofs.buffers.short_tables.Tie as tie

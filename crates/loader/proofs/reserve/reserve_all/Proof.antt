@@ -7,7 +7,7 @@ use lib.ListN.{length, getD}
 use Rattle.reg_matrix.specs.Lists.{foldl, count}
 use Rattle.matrix.specs.Reserving.{Lain, lain, cleared, reserving}
 use Rattle.loader.specs.Loading.{reservingAll}
-use Rattle.loader.proofs.Places.{fold-more, fold-end}
+use Rattle.job_tests.proofs.Places.{fold-more, fold-end}
 use Rattle.loader.proofs.reserve.reserve_all.Statement.{statement}
 use Rattle.loader.proofs.reserve.reserve_all.Tie as tie
 

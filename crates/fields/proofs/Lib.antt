@@ -1,0 +1,2 @@
+pub mod WeightBits
+pub mod Joined
