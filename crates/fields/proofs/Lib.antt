@@ -1,2 +1,3 @@
 pub mod WeightBits
+pub mod Turns
 pub mod Joined

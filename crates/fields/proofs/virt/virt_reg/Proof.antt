@@ -1,9 +1,8 @@
 use borrow.Author.Needs.{needs}
-use native.Mathlib.Omega.{arith}
-use mathlib.Core.Path.{refl, sym, ap, _∙_}
+use mathlib.Core.Path.{sym, ap, _∙_}
 use Rattle.fields.specs.Virt.{fieldsView}
 use Rattle.job.specs.Load.{virtRegAt}
-use Rattle.reader.proofs.Tables.{joined, virt-is}
+use Rattle.fields.proofs.Turns.{virt-out}
 use Rattle.fields.proofs.virt.virt_reg.Statement.{statement}
 use Rattle.fields.proofs.virt.virt_reg.Tie as tie
 
@@ -86,13 +85,13 @@ same-length-12 : tie.Need-same-length-12
 same-length-12 c = search needs
 
 returns-4 : tie.Need-returns-4
-unfolding virtRegAt
 returns-4 c =
-    let w = rw (c .before .before .before .before .before .before .before .before .before .before .before .before .before .before .hn .given .1) at (c .before .before .before .before .before .before .before .before .before .before .before .before .before .before .before .before .before .before .before .before .hint-table .ensures) in
-    let z = rw (c .before .gn .given .1) at (c .before .before .before .before .before .before .before .before .before .segment-table .ensures) in
-    let d = c .before .before .before .before .before .before .before .before .before .before .before .before .before .before .before .before .before .before .before .before .before .before .before .before .f .given .0 .0 in
     let a = c .before .before .before .before .before .before .before .before .before .before .before .before .before .before .before .before .before .before .before .before .before .before .before .before .before .before .before .before .before .before .before .before .before .args in
-    (joined d (w .0) (z .0), virt-is (a .regs) (a .classes) (a .n) (a .h) (a .g) _ (sym (c .before .before .before .before .before .before .before .before .before .before .before .before .before .before .before .before .before .before .before .before .before .before .before .before .before .before .virt-fields .ensures) ∙ ap (fieldsView (a .s .now)) (c .before .before .before .before .before .before .before .before .before .before .before .before .before .before .before .before .before .before .before .before .before .before .before .before .f .given .1)) (w .1) (z .1), record { class = refl; valueSet = refl; spillWeight = refl; size = refl; hints = w .2; segments = z .2 }, omega (arith, w .3, c .before .before .before .before .before .before .before .before .before .before .before .before .before .before .before .before .before .before .before .before .before .before .before .before .before .before .before .before .before .before .before .before .before .pre), omega (arith, z .3, c .before .before .before .before .before .before .before .before .before .before .before .before .before .before .before .before .before .before .before .before .before .before .before .before .before .before .before .before .before .before .before .before .before .pre), w .4, z .4)
+    let p = c .before .before .before .before .before .before .before .before .before .before .before .before .before .before .before .before .before .before .before .before .before .before .before .before .before .before .before .before .before .before .before .before .before .pre in
+    let f = c .before .before .before .before .before .before .before .before .before .before .before .before .before .before .before .before .before .before .before .before .before .before .before .before .f .given .0 in
+    let k = c .before .before .before .before .before .before .before .before .before .before .before .before .before .before .hn .given .0 in
+    let l = c .before .gn .given .0 in
+    virt-out (a .s .now) (a .regs) (a .classes) (a .n) (a .h) (a .g) (a .at) (f .1 .0) (k .1 .0) (l .1 .0) (k .0) (l .0) (f .0) (p .1) (p .2) (sym (c .before .before .before .before .before .before .before .before .before .before .before .before .before .before .before .before .before .before .before .before .before .before .before .before .before .before .virt-fields .ensures) ∙ ap (fieldsView (a .s .now)) (c .before .before .before .before .before .before .before .before .before .before .before .before .before .before .before .before .before .before .before .before .before .before .before .before .f .given .1)) (rw (c .before .before .before .before .before .before .before .before .before .before .before .before .before .before .hn .given .1) at (c .before .before .before .before .before .before .before .before .before .before .before .before .before .before .before .before .before .before .before .before .hint-table .ensures)) (rw (c .before .gn .given .1) at (c .before .before .before .before .before .before .before .before .before .segment-table .ensures))
 
 pub virt-reg-spec : {M : Type 1} → statement M
 virt-reg-spec =

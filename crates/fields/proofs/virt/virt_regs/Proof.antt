@@ -1,18 +1,19 @@
 -- The invariant: the virtual registers read so far are stored, h and g count their hints and segments, and the rest from here is the rest of the
 -- whole.
 use borrow.Author.Needs.{needs}
-use Prim.Native.Nat.{_+_, _-_, _≤_}
+use Prim.Native.Nat.{_-_, _≤_}
 use native.Mathlib.Omega.{arith}
 use mathlib.Core.Path.{_≡_, refl, _∙_}
-use mathlib.Core.List.{List, [], _∷_, _++_}
+use mathlib.Core.List.{List, []}
 use lib.ListN.{length}
 use Rattle.reg_matrix.specs.Lists.{concatMap}
 use Rattle.job.specs.Model.{VirtReg}
 use Rattle.job.specs.Load.{virtRegAfter}
-use Rattle.reader.specs.Read.{VirtsAt, HintsAt, SegmentsAt, hintsOfAll, segmentsOfAll, hintStarts, segmentStarts}
-use Rattle.reader.proofs.Reading.{Reading, begin, more, stops, ends}
-use Rattle.reader.proofs.Stores.{none-stored, more-stored, stored-length, stored-append}
-use Rattle.reader.proofs.Tables.{concat-more, concat-length, starts-then, starts-length, starts-begun, starts-ended, hintsIn-length, segmentsIn-length}
+use Rattle.reader.specs.Read.{VirtsAt, HintsAt, SegmentsAt, hintsOfAll, segmentsOfAll}
+use Rattle.reader.proofs.Reading.{Reading, begin, stops, ends}
+use Rattle.reader.proofs.Stores.{none-stored, stored-length}
+use Rattle.reader.proofs.Tables.{starts-begun, starts-ended, hintsIn-length, segmentsIn-length}
+use Rattle.fields.proofs.Turns.{virts-more}
 use Rattle.fields.proofs.virt.virt_regs.Statement.{statement}
 use Rattle.fields.proofs.virt.virt_regs.Tie as tie
 
@@ -157,44 +158,8 @@ loop-less : tie.Need-loop-less Inv-loop μ-loop
 loop-less c = omega (arith, c .before .before .before .before .before .before .before .before .before .before .before .before .before .before .before .before .before .before .before .before .before .before .before .before .before .before .before .before .before .before .before .before .before .before .before .before .before .before .before .before .loop-test .taken)
 
 loop-again : tie.Need-loop-again Inv-loop μ-loop
-unfolding virtRegAfter
 loop-again c =
-    let v = c .before .before .before .before .before .before .before .before .before .before .before .before .before .before .before .before .before .before .before .before .before .before .before .before .before .before .before .before .before .before .before .before .before .before .before .before .before .before .before .before .before .loop .inv in
-    let w = rw (c .before .before .before .before .before .before .before .before .before .before .before .before .before .before .before .before .before .before .before .before .before .before .f .given .1) at (c .before .before .before .before .before .before .before .before .before .before .before .before .before .before .before .before .before .before .before .before .before .before .before .before .before .before .before .before .before .before .before .before .before .before .virt-reg .ensures) in
-    let x = w .0 in
-    let eh = hintsIn-length (v .0) ∙ v .2 in
-    let eg = segmentsIn-length (v .0) ∙ v .3 in
-    let n : 0 + length (v .0) ≡ c .before .before .before .before .before .before .before .before .before .before .before .before .before .before .before .before .before .before .before .before .before .before .before .before .before .before .before .before .before .before .before .before .before .before .before .before .before .before .before .before .before .loop .i = omega (arith, v .1 .read) in
-    let mh : 0 + length (hintStarts (v .0)) ≡ c .before .before .before .before .before .before .before .before .before .before .before .before .before .before .before .before .before .before .before .before .before .before .before .before .before .before .before .before .before .before .before .before .before .before .before .before .before .before .before .before .before .loop .i + 1 = omega (arith, v .1 .read, starts-length (λ (v : VirtReg). length (v .hints)) 0 (v .0)) in
-    let mg : 0 + length (segmentStarts (v .0)) ≡ c .before .before .before .before .before .before .before .before .before .before .before .before .before .before .before .before .before .before .before .before .before .before .before .before .before .before .before .before .before .before .before .before .before .before .before .before .before .before .before .before .before .loop .i + 1 = omega (arith, v .1 .read, starts-length (λ (v : VirtReg). length (v .segments)) 0 (v .0)) in
-    let nh : 0 + length (hintsOfAll (v .0)) ≡ c .before .before .before .before .before .before .before .before .before .before .before .before .before .before .before .before .before .before .before .before .before .before .before .before .before .before .before .before .before .before .before .before .before .before .before .before .before .before .before .before .before .loop .h = omega (arith, v .2) in
-    let ng : 0 + length (segmentsOfAll (v .0)) ≡ c .before .before .before .before .before .before .before .before .before .before .before .before .before .before .before .before .before .before .before .before .before .before .before .before .before .before .before .before .before .before .before .before .before .before .before .before .before .before .before .before .before .loop .g = omega (arith, v .3) in
-    let sh : length (hintsOfAll (v .0)) + length (x .hints) ≡ c .before .before .before .before .before .before .before .before .before .before .before .before .before .before .before .before .before .before .before .before .before .before .before .before .before .before .before .before .before .before .before .before .before .before .before .before .before .before .before .before .before .loop .h + c .before .before .before .before .before .before .before .before .before .before .before .before .before .before .before .before .before .before .before .before .before .before .f .given .0 .1 .0 = omega (arith, v .2, w .2 .hints) in
-    let sg : length (segmentsOfAll (v .0)) + length (x .segments) ≡ c .before .before .before .before .before .before .before .before .before .before .before .before .before .before .before .before .before .before .before .before .before .before .before .before .before .before .before .before .before .before .before .before .before .before .before .before .before .before .before .before .before .loop .g + c .before .before .before .before .before .before .before .before .before .before .before .before .before .before .before .before .before .before .before .before .before .before .f .given .0 .1 .1 .0 = omega (arith, v .3, w .2 .segments) in (
-      v .0 ++ (x ∷ []),
-      more (v .1) (c .before .before .before .before .before .before .before .before .before .before .before .before .before .before .before .before .before .before .before .before .before .before .before .before .before .before .before .before .before .before .before .before .before .before .before .before .before .before .before .before .loop-test .taken) (rw (v .1 .read, eh, eg) (w .1)),
-      concat-length (λ (v : VirtReg). v .hints) (v .0) x ∙ sh,
-      concat-length (λ (v : VirtReg). v .segments) (v .0) x ∙ sg,
-      w .3,
-      w .4,
-      record {
-        classes = more-stored (v .6 .classes) x n (c .before .before .before .before .before .before .before .before .before .before .before .before .before .before .before .before .put-fields .ensures .class ∙ rw (w .2 .class));
-        valueSets = more-stored (v .6 .valueSets) x n (c .before .before .before .before .before .before .before .before .before .before .before .before .before .before .before .before .put-fields .ensures .valueSet ∙ rw (w .2 .valueSet));
-        spillWeights = more-stored (v .6 .spillWeights) x n (c .before .before .before .before .before .before .before .before .before .before .before .before .before .before .before .before .put-fields .ensures .spillWeight ∙ rw (w .2 .spillWeight));
-        sizes = more-stored (v .6 .sizes) x n (c .before .before .before .before .before .before .before .before .before .before .before .before .before .before .before .before .put-fields .ensures .size ∙ rw (w .2 .size));
-        hints = rw (starts-then (λ (v : VirtReg). v .hints) (v .0) x sh) (more-stored (v .6 .hints) (c .before .before .before .before .before .before .before .before .before .before .before .before .before .before .before .before .before .before .before .before .before .before .before .before .before .before .before .before .before .before .before .before .before .before .before .before .before .before .before .before .before .loop .h + c .before .before .before .before .before .before .before .before .before .before .before .before .before .before .before .before .before .before .before .before .before .before .f .given .0 .1 .0) mh (c .before .before .before .before .before .before .put163 .ensures));
-        segments = rw (starts-then (λ (v : VirtReg). v .segments) (v .0) x sg) (more-stored (v .6 .segments) (c .before .before .before .before .before .before .before .before .before .before .before .before .before .before .before .before .before .before .before .before .before .before .before .before .before .before .before .before .before .before .before .before .before .before .before .before .before .before .before .before .before .loop .g + c .before .before .before .before .before .before .before .before .before .before .before .before .before .before .before .before .before .before .before .before .before .before .f .given .0 .1 .1 .0) mg (c .before .before .put164 .ensures));
-      },
-      record {
-        regs = rw concat-more (stored-append (v .7 .regs) nh (w .5 .regs));
-        weights = rw concat-more (stored-append (v .7 .weights) nh (w .5 .weights));
-      },
-      record {
-        froms = rw concat-more (stored-append (v .8 .froms) ng (w .6 .froms));
-        tos = rw concat-more (stored-append (v .8 .tos) ng (w .6 .tos));
-        values = rw concat-more (stored-append (v .8 .values) ng (w .6 .values));
-      },
-    )
+    virts-more _ _ _ _ _ _ _ _ _ _ _ _ _ (c .before .before .before .before .before .before .before .before .before .before .before .before .before .before .before .before .before .before .before .before .before .before .before .before .before .before .before .before .before .before .before .before .before .before .before .before .before .before .before .before .before .loop .inv) (c .before .before .before .before .before .before .before .before .before .before .before .before .before .before .before .before .before .before .before .before .before .before .before .before .before .before .before .before .before .before .before .before .before .before .before .before .before .before .before .before .loop-test .taken) (rw (c .before .before .before .before .before .before .before .before .before .before .before .before .before .before .before .before .before .before .before .before .before .before .f .given .1) at (c .before .before .before .before .before .before .before .before .before .before .before .before .before .before .before .before .before .before .before .before .before .before .before .before .before .before .before .before .before .before .before .before .before .before .virt-reg .ensures)) (c .before .before .before .before .before .before .before .before .before .before .before .before .before .before .before .before .put-fields .ensures) (c .before .before .before .before .before .before .put163 .ensures) (c .before .before .put164 .ensures)
 
 same-length-12 : tie.Need-same-length-12 Inv-loop μ-loop
 same-length-12 c = stored-length (c .before .loop .inv .6 .classes)
