@@ -9,6 +9,7 @@ use lib.ListN.{length, drop}
 use Rattle.reg_matrix.specs.Lists.{bit}
 use Rattle.reg_matrix.specs.declared.Entry.{Entry}
 use Rattle.reg_matrix.specs.declared.ValueSegment.{ValueSegment}
+use Rattle.job.specs.declared.Hint.{Hint}
 use Rattle.job.specs.declared.JobHeader.{JobHeader}
 use Rattle.job.specs.declared.Probe.{Probe}
 use Rattle.job.specs.declared.Probe.the-variants.{Over, NoProbe}
@@ -17,9 +18,11 @@ use Rattle.job.specs.Parser.{Parser, Parsed, refused, parsed, andThen, done, if
 use Rattle.job.specs.Load.{register, class, reservation, virtRegAfter, jobFields}
 use Rattle.job.specs.Layout.{probeOf, headerOf}
 use Rattle.reader.specs.Read.{tableOf, hintsOfAll, segmentsOfAll}
-use Rattle.fields.specs.Virt.{probeField, rangeOf}
-use Rattle.fields.specs.Whole.{restOf, lastOf, FirstSizes, LastOut, JobOut}
+use Rattle.fields.specs.Virt.{probeField, rangeOf, TableOut}
+use Rattle.fields.specs.Whole.{restOf, lastOf, FirstSizes, FirstOut, LastOut, JobAt, JobOut}
 use Rattle.fields.specs.declared.whole.FirstTables.{FirstTables}
+use Rattle.fields.specs.declared.whole.FirstRead.the-variants.{Is as IsFirst}
+use Rattle.fields.specs.declared.virt.VirtTable.the-variants.{Is as IsTable}
 use Rattle.fields.specs.declared.whole.JobRead.{JobRead}
 use Rattle.fields.specs.declared.whole.JobRead.the-variants.{Is, Refused}
 
@@ -92,3 +95,18 @@ module _ {t : FirstTables} {rs : List ℕ} {cs : List (List ℕ)} {es : List Ent
         k (rangeOf (d .probe)) (d .budget),
       );
     }
+
+-- ---- from what the first tables and the virtual registers answered
+
+module _ (s : List ℕ) (at : ℕ) {p : Parsed Job} {t : FirstTables} {rs : List ℕ → Type 0} {cs : List (List ℕ) → Type 0} {es : List Entry → Type 0} (w : FirstOut s p (IsFirst t at) rs cs es) where
+  pub virts-refused : {n : ℕ} {stored : Job → Type 0} → tableOf (bit 3 (t .map)) 2 512 (virtRegAfter (t .regs) (t .classes)) (drop at s) ≡ refused n → JobOut s p (Refused n) stored
+  virts-refused e = record { parts = w .3 ∙ virts-refuse (w .4) (drop at s) e }
+
+  pub all-read :
+      (next : ℕ) {v h g : ℕ} (r : JobRead) {vs : List VirtReg → Type 0} {hs : List Hint → Type 0} {ss : List ValueSegment → Type 0}
+      → TableOut s (tableOf (bit 3 (t .map)) 2 512 (virtRegAfter (t .regs) (t .classes)) (drop at s)) (IsTable v h g next) vs hs ss
+      → LastOut s next t v h g r
+      → JobOut s p r (JobAt rs cs es vs hs ss)
+  all-read next r x o =
+      job-out (w .4) (drop at s) (x .1) s next r refl (w .3) (x .2) (x .3) (x .4)
+      (λ q b. record { regs = w .5; classes = w .6; fixed = w .7; virtRegs = x .7; hints = x .8; segments = x .9 }) o

@@ -1,6 +1,5 @@
 use borrow.Author.Needs.{needs}
-use mathlib.Core.Path.{refl, _∙_}
-use Rattle.fields.proofs.Joined.{virts-refuse, job-out}
+use Rattle.fields.proofs.Joined.{virts-refused, all-read}
 use Rattle.fields.proofs.whole.job_fields.Statement.{statement}
 use Rattle.fields.proofs.whole.job_fields.Tie as tie
 
@@ -104,9 +103,7 @@ same-length-25 : tie.Need-same-length-25
 same-length-25 c = c .before .before .before .before .values .given
 
 returns-2 : tie.Need-returns-2
-returns-2 c =
-    let w = rw (c .before .before .before .before .before .before .before .before .before .before .before .before .before .before .before .before .before .before .before .before .before .before .before .before .before .before .before .before .before .before .before .before .before .before .before .before .before .before .before .t .given .1) at (c .before .before .before .before .before .before .before .before .before .before .before .before .before .before .before .before .before .before .before .before .before .before .before .before .before .before .before .before .before .before .before .before .before .before .before .before .before .before .before .before .before .before .before .before .before .before .before .before .before .before .before .before .before .before .before .first-tables .ensures) in
-    record { parts = w .3 ∙ virts-refuse (w .4) _ (rw (c .before .n2 .given .1) at (c .before .before .before .before .before .before .before .before .before .before .before .before .before .before .before .before .before .before .before .before .before .before .before .before .before .virt-table .ensures)) }
+returns-2 c = virts-refused _ (c .before .before .before .before .before .before .before .before .before .before .before .before .before .before .before .before .before .before .before .before .before .before .before .before .before .before .before .before .before .before .before .before .before .before .before .before .before .before .before .t .given .0 .1 .0) (rw (c .before .before .before .before .before .before .before .before .before .before .before .before .before .before .before .before .before .before .before .before .before .before .before .before .before .before .before .before .before .before .before .before .before .before .before .before .before .before .before .t .given .1) at (c .before .before .before .before .before .before .before .before .before .before .before .before .before .before .before .before .before .before .before .before .before .before .before .before .before .before .before .before .before .before .before .before .before .before .before .before .before .before .before .before .before .before .before .before .before .before .before .before .before .before .before .before .before .before .before .first-tables .ensures)) (rw (c .before .n2 .given .1) at (c .before .before .before .before .before .before .before .before .before .before .before .before .before .before .before .before .before .before .before .before .before .before .before .before .before .virt-table .ensures))
 
 same-length-26 : tie.Need-same-length-26
 same-length-26 c = c .before .before .before .before .before .before .before .before .before .before .before .before .before .before .before .before .before .before .before .before .before .before .before .before .before .before .before .before .before .before .before .before .before .before .before .before .before .before .before .before .before .before .before .before .before .before .before .before .before .before .before .before .before .before .before .regs .given
@@ -163,10 +160,7 @@ same-length-43 : tie.Need-same-length-43
 same-length-43 c = c .before .before .before .before .before .values .given
 
 returns-3 : tie.Need-returns-3
-returns-3 c =
-    let w = rw (c .before .before .before .before .before .before .before .before .before .before .before .before .before .before .before .before .before .before .before .before .before .before .before .before .before .before .before .before .before .before .before .before .before .before .before .before .before .before .before .before .t .given .1) at (c .before .before .before .before .before .before .before .before .before .before .before .before .before .before .before .before .before .before .before .before .before .before .before .before .before .before .before .before .before .before .before .before .before .before .before .before .before .before .before .before .before .before .before .before .before .before .before .before .before .before .before .before .before .before .before .before .first-tables .ensures) in
-    let x = rw (c .before .before .vn .given .1) at (c .before .before .before .before .before .before .before .before .before .before .before .before .before .before .before .before .before .before .before .before .before .before .before .before .before .before .virt-table .ensures) in
-    job-out (w .4) _ (x .1) _ _ _ refl (w .3) (x .2) (x .3) (x .4) (λ q b. record { regs = w .5; classes = w .6; fixed = w .7; virtRegs = x .7; hints = x .8; segments = x .9 }) (c .last-fields .ensures)
+returns-3 c = all-read _ (c .before .before .before .before .before .before .before .before .before .before .before .before .before .before .before .before .before .before .before .before .before .before .before .before .before .before .before .before .before .before .before .before .before .before .before .before .before .before .before .before .t .given .0 .1 .0) (rw (c .before .before .before .before .before .before .before .before .before .before .before .before .before .before .before .before .before .before .before .before .before .before .before .before .before .before .before .before .before .before .before .before .before .before .before .before .before .before .before .before .t .given .1) at (c .before .before .before .before .before .before .before .before .before .before .before .before .before .before .before .before .before .before .before .before .before .before .before .before .before .before .before .before .before .before .before .before .before .before .before .before .before .before .before .before .before .before .before .before .before .before .before .before .before .before .before .before .before .before .before .before .first-tables .ensures)) (c .before .before .vn .given .0 .1 .1 .1 .0) _ (rw (c .before .before .vn .given .1) at (c .before .before .before .before .before .before .before .before .before .before .before .before .before .before .before .before .before .before .before .before .before .before .before .before .before .before .virt-table .ensures)) (c .last-fields .ensures)
 
 pub job-fields-spec : {M : Type 1} → statement M
 job-fields-spec =
