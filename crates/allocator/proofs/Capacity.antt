@@ -94,7 +94,7 @@ module _ (j : Job) (p : Premises j) (s : State) (h : Holding) (a : Agrees j s h)
       omega (arith, cells-length v (unitsOf (unitMap j r)) (segmentsOf j v), mul-le-mul-right (length (segmentsOf j v)) (p .few-units r (named-known j p v r (k .0) (k .1))))
 
   -- the cells of all holders: 512 segments on 4 units each
-  few-cells : length (cellsOf j h) ≤ 4 * 512
+  pub few-cells : length (cellsOf j h) ≤ 4 * 512
   unfolding cellsOf virtReg
   few-cells =
       omega (

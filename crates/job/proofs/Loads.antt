@@ -207,6 +207,7 @@ module _ (j : Job) (t : Tested j) where
           rising = good-rising (segmentsOf j v) (good-virtReg v h .segments .order);
           uncut = not-cut j (t .uncut) (virtReg j v) (virtReg-in v h);
         };
+        slots = λ v h s m. good-virtReg v h .segments .each s m .slots;
         a-segment = λ v h. a-member (segmentsOf j v) (good-virtReg v h .some);
         a-unit = λ r h. a-unit (unitMap j r) (good-map r h .small) (good-map r h .some);
         no-twin = no-twin;
