@@ -70,6 +70,11 @@ pub data Step : Type 0 where
   goesOn : State → Step
   tooMany : State → Step
 
+-- the state that a step leaves
+abbrev pub stateOf : Step → State
+stateOf (goesOn s) = s
+stateOf (tooMany s) = s
+
 unfoldable pub evictAll : Job → List ℕ → State → State
 evictAll j vs s = foldl (evictNumber j) s vs
 
