@@ -2,6 +2,7 @@
 // slices as loading leaves them, the table's two, the queue and the last registers; the 512 records go by value.
 use allocator::CandidateReg;
 
+pub mod carry;
 pub mod decide;
 mod parts;
 
