@@ -16,7 +16,7 @@ use Rattle.job.proofs.Premises.{IsNumber, IsReg}
 use Rattle.job.proofs.Weights.{neither}
 use Rattle.allocator.specs.State.{State, heldBy, isUnassigned, checkOf}
 use Rattle.allocator.specs.Layout.{stageLimits}
-use Rattle.allocator.specs.Calls.{placing, evicting, unknownNumber, named, badWeight, refusalOf}
+use Rattle.allocator.specs.Calls.{placing, evicting, running, unknownNumber, named, badWeight, refusalOf}
 use Rattle.allocator.proofs.Holders.{none-some}
 
 -- ---- tests
@@ -130,3 +130,9 @@ evicting-accepted j s lent v = (out, into)
         pass-all 15 (shortBuffer stageLimits lent) _ (k .lends)
         (pass-all 8 (unknownNumber j v) _ (below (length (j .virtRegs)) v (k .known))
         (pass-all 13 (not (isSome (heldBy s v))) [] (twice-not (isSome (heldBy s v)) (k .assigned)) no-test))
+
+-- ---- runs: test 15 alone
+
+pub running-accepted : (j : Job) (s : State) (lent : List ℕ) (b : ℕ) → T (not (shortBuffer stageLimits lent)) → refusalOf j s (running lent b) ≡ none
+unfolding refusalOf
+running-accepted j s lent b t = pass-all 15 (shortBuffer stageLimits lent) [] t no-test

@@ -1,6 +1,6 @@
 -- What stays true of a state and of who holds what (`Agrees`), and that every change of the state keeps it: a number gets a register or loses
 -- it, is queued again, is left over. Assumes nothing.
-use Prim.Native.Nat.{ℕ, zero, suc, _<_, _≤_, _+_, _-_}
+use Prim.Native.Nat.{ℕ, _<_, _≤_, _+_, _-_}
 use native.Mathlib.Omega.{arith}
 use mathlib.Core.Path.{_≡_, refl, sym, ap, _∙_, subst, fun-ext}
 use mathlib.Core.Logic.{_⊎_, inl, inr}
@@ -12,6 +12,7 @@ use lib.ListN.{length, getD, set, replicate, length-append, length-replicate, le
 use lib.Seq.{getD-set-same, getD-set-other, getD-append-add}
 use Rattle.reg_matrix.specs.Lists.{padded}
 use Rattle.reg_matrix.proofs.Tests.{less-equal-greater}
+use Rattle.reg_matrix.proofs.Places.{replicate-default}
 use Rattle.job.specs.Model.{Job, virtReg}
 use Rattle.job.proofs.Premises.{Premises, IsNumber, Plain}
 use Rattle.allocator.specs.State.{State, CandidateReg, Stage, Evict, freshState, heldBy, isLeftOver, flag, lastGiven, checkOf, give, lose, loseHeld, evictNumber, requeue, leave}
@@ -103,11 +104,6 @@ module _ {A : Type 0} where
       go : (k ≡ i) ⊎ (k ≡ i → ⊥) → ((k ≡ i) × (getD (set l i a) k d ≡ a)) ⊎ ((k ≡ i → ⊥) × (getD (set l i a) k d ≡ getD l k d))
       go (inl e) = inl (e, ap (λ (n : ℕ). getD (set l i a) n d) e ∙ getD-set-same l i a d b)
       go (inr n) = inr (n, getD-set-other l i k a d n)
-
-  pub replicate-default : (n i : ℕ) (d : A) → getD (replicate n d) i d ≡ d
-  replicate-default zero i d = refl
-  replicate-default (suc n) zero d = refl
-  replicate-default (suc n) (suc i) d = replicate-default n i d
 
 -- ---- the fresh job
 

@@ -1,21 +1,22 @@
 -- The cells of those who hold a register, in the order of their numbers. The table has these cells (`Matrix`), and it keeps them when a number
 -- gets a register whose check is clear, and when a number loses one. Assumes nothing.
-use Prim.Native.Nat.{ℕ, zero, suc, _<_, _+_, _-_}
+use Prim.Native.Nat.{ℕ, suc, _<_, _+_, _-_}
 use native.Mathlib.Omega.{arith}
-use native.Mathlib.Nat.{zero-add, add-zero, suc-add, add-suc}
+use native.Mathlib.Nat.{zero-add}
 use mathlib.Core.Path.{_≡_, refl, sym, ap, ap₂, _∙_, subst}
 use mathlib.Core.Logic.{_⊎_, inl, inr, ⊎-swap}
-use mathlib.Core.List.{List, [], _∷_, _++_, append-assoc, append-nil, List·Memᴰ·head, List·Memᴰ·tail, List·Memᴰ·cases-cons, Memᴰ·append-left, Memᴰ·append-right}
+use mathlib.Core.List.{List, [], _∷_, _++_, append-nil, List·Memᴰ·head, List·Memᴰ·tail, List·Memᴰ·cases-cons, Memᴰ·append-left, Memᴰ·append-right}
 use mathlib.Core.Option.{Option, none, some}
 use mathlib.Core.Bool.{Bool, true, false, cond}
 use lib.Dec.{T, eqb, eqb→eq, eqb-refl}
-use lib.ListN.{length}
+use lib.ListN.{length, length-append}
 use Rattle.reg_matrix.specs.Lists.{concatMap, count}
 use Rattle.reg_matrix.specs.Table.{Table, unitsOf, freshTable}
 use Rattle.reg_matrix.specs.Check.{check}
 use Rattle.reg_matrix.specs.Assign.{assign, evict}
 use Rattle.reg_matrix.specs.declared.Entry.{Entry}
 use Rattle.reg_matrix.proofs.Members.{_∈_, concat-in, concat-out, concat-none, count-in, count-out}
+use Rattle.reg_matrix.proofs.Places.{concat-append, concat-same, count-append}
 use Rattle.reg_matrix.proofs.Cells.{Disjoint, Cell, Free, Among, is-among, free-among}
 use Rattle.reg_matrix.proofs.Whole.{cellOf, cells, cellsOn-out, cellsOn-in, AllFree, Joins, joins-middle, middle-first}
 use Rattle.reg_matrix.proofs.Laws.{Matrix, fresh-table, assign-adds, evict-takes}
@@ -68,24 +69,6 @@ but-other h w o v n = go (but-cases h w o v)
     go : ((v ≡ w) × (but h w o v ≡ o)) ⊎ ((v ≡ w → ⊥) × (but h w o v ≡ h v)) → but h w o v ≡ h v
     go (inl k) = absurd (n (k .0))
     go (inr k) = k .1
-
--- ---- lists
-
-module _ {A B : Type 0} where
-  concat-append : (f : A → List B) (xs ys : List A) → concatMap f (xs ++ ys) ≡ concatMap f xs ++ concatMap f ys
-  unfolding concatMap
-  concat-append f [] ys = refl
-  concat-append f (x ∷ xs) ys = ap (λ (l : List B). f x ++ l) (concat-append f xs ys) ∙ sym (append-assoc (f x) (concatMap f xs) (concatMap f ys))
-
-  concat-same : (f g : A → List B) (xs : List A) → ((x : A) → x ∈ xs → f x ≡ g x) → concatMap f xs ≡ concatMap g xs
-  unfolding concatMap
-  concat-same f g [] h = refl
-  concat-same f g (x ∷ xs) h = ap₂ (λ (k l : List B). k ++ l) (h x (List·Memᴰ·head refl)) (concat-same f g xs (λ y m. h y (List·Memᴰ·tail m)))
-
-count-append : (i m n : ℕ) → count i (m + n) ≡ count i m ++ count (i + m) n
-unfolding count
-count-append i zero n = simp (zero-add, add-zero)
-count-append i (suc m) n = rw (suc-add, add-suc, ← suc-add i m) (ap (λ (l : List ℕ). i ∷ l) (count-append (suc i) m n))
 
 -- ---- cells that go together do so in any order
 
@@ -178,13 +161,13 @@ module _ (j : Job) where
           }
 
   -- the cells, split at a number
-  ahead : Holding → ℕ → List Cell
+  pub ahead : Holding → ℕ → List Cell
   ahead h v = concatMap (λ w. cellsIf j w (h w)) (count 0 v)
 
-  behind : Holding → ℕ → List Cell
+  pub behind : Holding → ℕ → List Cell
   behind h v = concatMap (λ w. cellsIf j w (h w)) (count (suc v) (length (j .virtRegs) - suc v))
 
-  split-at : (h : Holding) (v : ℕ) → IsNumber j v → cellsOf j h ≡ ahead h v ++ (cellsIf j v (h v) ++ behind h v)
+  pub split-at : (h : Holding) (v : ℕ) → IsNumber j v → cellsOf j h ≡ ahead h v ++ (cellsIf j v (h v) ++ behind h v)
   unfolding cellsOf ahead behind concatMap count
   split-at h v b =
       let q : length (j .virtRegs) ≡ v + suc (length (j .virtRegs) - suc v) = omega arith in
@@ -196,7 +179,7 @@ module _ (j : Job) where
       f : ℕ → List Cell
       f w = cellsIf j w (h w)
 
-  split-but : (h : Holding) (v : ℕ) (o : Option ℕ) → IsNumber j v → cellsOf j (but h v o) ≡ ahead h v ++ (cellsIf j v o ++ behind h v)
+  pub split-but : (h : Holding) (v : ℕ) (o : Option ℕ) → IsNumber j v → cellsOf j (but h v o) ≡ ahead h v ++ (cellsIf j v o ++ behind h v)
   unfolding ahead behind
   split-but h v o b = split-at (but h v o) v b ∙ ap₂ (λ (k l : List Cell). k ++ l) front (ap₂ (λ (k l : List Cell). k ++ l) (ap (cellsIf j v) (but-same h v o)) back)
     where
@@ -210,6 +193,18 @@ module _ (j : Job) where
       back =
           concat-same (λ w. cellsIf j w (but h v o w)) (λ w. cellsIf j w (h w)) (count (suc v) (length (j .virtRegs) - suc v))
           (λ w m. other w (λ e. omega (arith, count-out (suc v) (length (j .virtRegs) - suc v) w m .0)))
+
+  -- who holds nothing and gets the register r has its cells besides
+  pub cells-more : (h : Holding) (v r : ℕ) → IsNumber j v → h v ≡ none → length (cellsOf j (but h v (some r))) ≡ length (cells v (unitMap j r) (segmentsOf j v)) + length (cellsOf j h)
+  cells-more h v r b q =
+      let a : cellsOf j h ≡ ahead h v ++ behind h v = split-at h v b ∙ ap (λ (o : Option ℕ). ahead h v ++ (cellsIf j v o ++ behind h v)) q in
+      rw (split-but h v (some r) b, a)
+      (omega (
+        arith,
+        length-append (ahead h v) (cells v (unitMap j r) (segmentsOf j v) ++ behind h v),
+        length-append (cells v (unitMap j r) (segmentsOf j v)) (behind h v),
+        length-append (ahead h v) (behind h v),
+      ))
 
 -- ---- the table of those who hold
 

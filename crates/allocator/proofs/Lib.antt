@@ -16,4 +16,5 @@ pub mod Agreement
 pub mod NeverShared
 pub mod EvictOrder
 pub mod Capacity
+pub mod Good
 pub mod NotBytes

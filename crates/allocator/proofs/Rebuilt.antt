@@ -13,6 +13,7 @@ use Rattle.reg_matrix.specs.Lists.{foldl, concatMap, count, any, has, isSome}
 use Rattle.reg_matrix.specs.Refusals.{shortBuffer}
 use Rattle.reg_matrix.proofs.Tests.{both, both-in, either}
 use Rattle.reg_matrix.proofs.Members.{_∈_, any-out}
+use Rattle.reg_matrix.proofs.Places.{replicate-default}
 use Rattle.reg_matrix.proofs.Cells.{Among, free-among}
 use Rattle.reg_matrix.proofs.Whole.{cellOf, AllFree}
 use Rattle.reg_matrix.proofs.Laws.{clear-free, table-decided}
@@ -28,7 +29,7 @@ use Rattle.allocator.specs.Holding.{Holding, but}
 use Rattle.allocator.specs.Demand.{Holder, asHolder, placeHolder}
 use Rattle.allocator.proofs.Holders.{none-some, but-cases, but-other, cellsOf, OfHolder, cell-in, cell-out, TableOf, free-beside}
 use Rattle.allocator.proofs.Weights.{plain-zero}
-use Rattle.allocator.proofs.Agrees.{regHeld, Agrees, holder-known, replicate-default, fresh-agrees, give-agrees, but-none}
+use Rattle.allocator.proofs.Agrees.{regHeld, Agrees, holder-known, fresh-agrees, give-agrees, but-none}
 use Rattle.allocator.proofs.Decisions.{has-out}
 use Rattle.allocator.proofs.Accepted.{placing-accepted}
 
@@ -82,7 +83,7 @@ upTo-next h k o q = fun-ext (λ x. go x (but-cases (upTo h k) k o x) (upTo-cases
 -- ---- placing them, lowest number first
 
 -- the tests of a direct placement that the numbers alone decide
-limits-suffice : T (not (shortBuffer stageLimits stageLimits))
+pub limits-suffice : T (not (shortBuffer stageLimits stageLimits))
 unfolding shortBuffer
 limits-suffice = tt
 

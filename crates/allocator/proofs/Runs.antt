@@ -87,7 +87,7 @@ module _ (j : Job) (p : Premises j) where
 
   module _ (s : State) (h : Holding) (a : Agrees j s h) (v : ℕ) (w : Waiting j s h v) where
     -- once they are evicted, the check is clear
-    evicted-clear : (c : CandidateReg) (vs : List ℕ) → Takes j s v c vs → checkOf j (evictAll j vs s) v (c .reg) ≡ []
+    pub evicted-clear : (c : CandidateReg) (vs : List ℕ) → Takes j s v c vs → checkOf j (evictAll j vs s) v (c .reg) ≡ []
     unfolding checkOf
     evicted-clear c vs t =
         clear-free (j .fixed) (p .sound) (cellsOf j (without h vs)) (evictAll j vs s .table) (evictAll-agrees vs s h a .table) false v (unitMap j (c .reg))
@@ -105,25 +105,26 @@ module _ (j : Job) (p : Premises j) where
                 let o = cell-out j (without h vs) d m in
                 (cell-in j h d (record { reg = o .reg; holds = sym (k .1) ∙ o .holds; known = o .known; unit = o .unit; segment = o .segment }), k .0)
 
-    take-agrees : (c : CandidateReg) (f : Bool) (vs : List ℕ) → Takes j s v c vs → Agrees j (give j v c f (evictAll j vs s)) (foldl changed h (map loses vs ++ (gets v (c .reg) ∷ [])))
-    unfolding foldl
-    take-agrees c f vs t =
-        subst (λ (g : Holding). Agrees j (give j v c f (evictAll j vs s)) g) (sym (fold-append changed h (map loses vs) (gets v (c .reg) ∷ [])))
-        (give-agrees j p (evictAll j vs s) (without h vs) (evictAll-agrees vs s h a) v (w .known) c f waiting (t .good) (evicted-clear c vs t))
+    -- and v waits still
+    pub evicted-waiting : (vs : List ℕ) → Waiting j (evictAll j vs s) (without h vs) v
+    evicted-waiting vs =
+        record {
+          known = w .known;
+          idle = idle (without-cases vs h v);
+          stays = subst (λ (l : List Bool). T (not (getD l v false))) (sym (evictAll-left j vs s)) (w .stays);
+        }
       where
         idle : ((v ∈ vs) × (without h vs v ≡ none)) ⊎ ((v ∈ vs → ⊥) × (without h vs v ≡ h v)) → without h vs v ≡ none
         idle (inl k) = k .1
         idle (inr k) = k .1 ∙ w .idle
 
-        waiting : Waiting j (evictAll j vs s) (without h vs) v
-        waiting =
-            record {
-              known = w .known;
-              idle = idle (without-cases vs h v);
-              stays = subst (λ (l : List Bool). T (not (getD l v false))) (sym (evictAll-left j vs s)) (w .stays);
-            }
+    take-agrees : (c : CandidateReg) (f : Bool) (vs : List ℕ) → Takes j s v c vs → Agrees j (give j v c f (evictAll j vs s)) (foldl changed h (map loses vs ++ (gets v (c .reg) ∷ [])))
+    unfolding foldl
+    take-agrees c f vs t =
+        subst (λ (g : Holding). Agrees j (give j v c f (evictAll j vs s)) g) (sym (fold-append changed h (map loses vs) (gets v (c .reg) ∷ [])))
+        (give-agrees j p (evictAll j vs s) (without h vs) (evictAll-agrees vs s h a) v (w .known) c f (evicted-waiting vs) (t .good) (evicted-clear c vs t))
 
-    carried-agrees : (d : Decision) → Fits j s v d → Agrees j (stateOf (carryOut j s v d)) (foldl changed h (byDecision v d))
+    pub carried-agrees : (d : Decision) → Fits j s v d → Agrees j (stateOf (carryOut j s v d)) (foldl changed h (byDecision v d))
     unfolding carryOut foldl
     carried-agrees leaves t = leave-agrees j p s h a v (w .known) w
     carried-agrees (takes c f vs) t = take-agrees c f vs t
@@ -225,13 +226,13 @@ module _ (j : Job) (p : Premises j) where
           let u = both (not (isSome (heldBy s v))) (not (isLeftOver s v)) (k .unassigned) in
           record { known = k .known; idle = sym (a .regs v) ∙ held-none (heldBy s v) (u .0); stays = u .1 }
 
-  accepted-agrees : (s : State) (h : Holding) → Agrees j s h → (c : Call) → refusalOf j s c ≡ none → Agrees j (carriedOut j s c) (foldl changed h (byAccepted j s c))
+  pub accepted-agrees : (s : State) (h : Holding) → Agrees j s h → (c : Call) → refusalOf j s c ≡ none → Agrees j (carriedOut j s c) (foldl changed h (byAccepted j s c))
   unfolding carriedOut foldl
   accepted-agrees s h a (placing lent v r w) q = place-agrees s h a lent v r w (placing-accepted j s lent v r w .0 q)
   accepted-agrees s h a (evicting lent v) q = evict-agrees j p s h a v
   accepted-agrees s h a (running lent b) q = run-agrees b s h a
 
-  call-agrees : (s : State) (h : Holding) → Agrees j s h → (c : Call) → Agrees j (after j s c) (foldl changed h (byCall j s c))
+  pub call-agrees : (s : State) (h : Holding) → Agrees j s h → (c : Call) → Agrees j (after j s c) (foldl changed h (byCall j s c))
   unfolding after byCall foldl
   call-agrees s h a c = go (refusalOf j s c) refl
     where

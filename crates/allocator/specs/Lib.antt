@@ -8,5 +8,6 @@ pub mod Layout
 pub mod Calls
 pub mod Holding
 pub mod Demand
+pub mod Reached
 pub mod Sheet
 pub mod Script

@@ -25,7 +25,7 @@ use Rattle.job.specs.declared.VirtRegFields.{VirtRegFields}
 use Rattle.job.specs.Model.{VirtReg, Job}
 use Rattle.job.specs.Parser.{Parsed, refused, parsed, Parser, andThen, _>>=_, done, ifBit, each, little}
 use Rattle.job.specs.Load.{countOf, known, badSpillBits, badHintBits, register, class, fixedFields, lastEnd, fixedRange, fixedTests, reservation, hint, range, pastOf, segment, hintsIn, segmentsIn, hintCount, segmentCount, hints, segments, spillBits, virtRegFields, virtRegAt, virtRegAfter, jobFields, twin, mixedSet, cutUse, wholeJob, notLoaded, loaded, asLoaded, loadWith, Bytes}
-use Rattle.job.proofs.Premises.{Plain, Finite, SmallEntry, SmallSegment}
+use Rattle.job.proofs.Premises.{Plain, Finite, SmallEntry, SmallSegment, GoodSlots}
 use Rattle.job.proofs.Readers.{Left, Got, got-done, got-bit, got-cond, got-then, got-so, got-refuse, got-little, got-number, got-each}
 use Rattle.job.proofs.Lists.{Each, each-none, Pairs, each-more, pairs-more, foldl-more, lastTo, ended-more}
 use Rattle.job.proofs.Weights.{neither, plain-spill, finite-hint}
@@ -223,6 +223,7 @@ got-hints regs earlier b =
 pub record GoodSegment (s : ValueSegment) : Type 0 where
   pub nonempty : s .from < s .to
   pub small : SmallSegment s
+  pub slots : GoodSlots s
 
 abbrev NextSegment : ℕ → ValueSegment → Type 0
 NextSegment past s = GoodSegment s × (past ≤ s .from)
@@ -234,9 +235,9 @@ got-range past value h c =
     got-then (got-little 4 c) λ b s hb c.
     got-then (h s c) λ x s hx c.
     got-then (got-refuse 5 (leb b a) c) λ _ s p c.
-    got-then (got-refuse 6 (badSlot a || badSlot b) c) λ _ s _ c.
+    got-then (got-refuse 6 (badSlot a || badSlot b) c) λ _ s d c.
     got-then (got-refuse 7 (ltb a past) c) λ _ s q c.
-    got-done (record { nonempty = nleb→lt b a p; small = record { from = omega arith; to = omega arith; value = omega arith } }, nltb→le a past q) c
+    got-done (record { nonempty = nleb→lt b a p; small = record { from = omega arith; to = omega arith; value = omega arith }; slots = d }, nltb→le a past q) c
 
 abbrev pub Ahead : ValueSegment → ValueSegment → Type 0
 Ahead r s = r .to ≤ s .from

@@ -193,6 +193,8 @@ module _ (j : Job) (t : Tested j) where
         few-fixed = t .fields .few-fixed;
         few-hints = few-hints;
         few-segments = few-segments;
+        few-own-hints = λ v h. good-virtReg v h .hints .few;
+        small-classes = λ c m. t .fields .classes .each c m .few;
         small-maps = λ r h. good-map r h .small;
         few-units = λ r h. omega (arith, units-length (unitMap j r), good-map r h .few);
         small-fixed = λ e m. t .fields .fixed .each e m .small;
@@ -207,6 +209,7 @@ module _ (j : Job) (t : Tested j) where
           rising = good-rising (segmentsOf j v) (good-virtReg v h .segments .order);
           uncut = not-cut j (t .uncut) (virtReg j v) (virtReg-in v h);
         };
+        slots = λ v h s m. good-virtReg v h .segments .each s m .slots;
         a-segment = λ v h. a-member (segmentsOf j v) (good-virtReg v h .some);
         a-unit = λ r h. a-unit (unitMap j r) (good-map r h .small) (good-map r h .some);
         no-twin = no-twin;

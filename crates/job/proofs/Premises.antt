@@ -3,10 +3,11 @@
 use Prim.Native.Nat.{ℕ, _+_, _<_, _≤_, _^_}
 use mathlib.Core.Path.{_≡_}
 use mathlib.Core.List.{List}
-use mathlib.Core.Bool.{false}
+use mathlib.Core.Bool.{false, not, _||_}
 use lib.Dec.{T}
 use lib.Ieee.{Float, nan, inf, fin}
 use lib.ListN.{length}
+use Rattle.reg_matrix.specs.Refusals.{badSlot}
 use Rattle.reg_matrix.specs.Table.{unitsOf, isUse}
 use Rattle.reg_matrix.specs.Layout.{useValue}
 use Rattle.reg_matrix.specs.declared.ValueSegment.{ValueSegment}
@@ -48,6 +49,10 @@ pub record SmallSegment (s : ValueSegment) : Type 0 where
   pub to : s .to < 2 ^ 32
   pub value : s .value < 2 ^ 16
 
+-- neither point is in slot 3
+abbrev pub GoodSlots : ValueSegment → Type 0
+GoodSlots s = T (not (badSlot (s .from) || badSlot (s .to)))
+
 -- v is a number of a virtual register
 abbrev pub IsNumber : Job → ℕ → Type 0
 IsNumber j v = v < length (j .virtRegs)
@@ -63,6 +68,8 @@ pub record Premises (j : Job) : Type 0 where
   pub few-fixed : length (j .fixed) ≤ 512
   pub few-hints : length (allHints j) ≤ 1024
   pub few-segments : length (allSegments j) ≤ 512
+  pub few-own-hints : (v : ℕ) → IsNumber j v → length (virtReg j v .hints) ≤ 64
+  pub small-classes : (c : List ℕ) → c ∈ j .classes → length c ≤ 64
   pub small-maps : (r : ℕ) → IsReg j r → unitMap j r < 2 ^ 64
   pub few-units : (r : ℕ) → IsReg j r → length (unitsOf (unitMap j r)) ≤ 4
   pub small-fixed : (e : Entry) → e ∈ j .fixed → SmallEntry e
@@ -76,6 +83,8 @@ pub record Premises (j : Job) : Type 0 where
   -- 5, 7, 12: segments are there, nonempty, sorted and disjoint, and cut no fixed use of their own value
   pub segments : (v : ℕ) → IsNumber j v → Segments (j .fixed) (segmentsOf j v)
   pub a-segment : (v : ℕ) → IsNumber j v → (s : ValueSegment) × (s ∈ segmentsOf j v)
+  -- 6: their points have slots
+  pub slots : (v : ℕ) → IsNumber j v → (s : ValueSegment) → s ∈ segmentsOf j v → GoodSlots s
   -- 5, 10: every register has units, no two the same ones
   pub a-unit : (r : ℕ) → IsReg j r → (u : ℕ) × (u ∈ unitsOf (unitMap j r))
   pub no-twin : (q r : ℕ) → IsReg j q → IsReg j r → UnitsWithin (unitMap j q) (unitMap j r) → UnitsWithin (unitMap j r) (unitMap j q) → q ≡ r

@@ -6,9 +6,8 @@ use mathlib.Core.Path.{_≡_, sym, ap, _∙_, subst}
 use mathlib.Core.Option.{Option, none}
 use mathlib.Core.List.{List, [], _++_, map}
 use mathlib.Core.Bool.{Bool, false}
-use lib.ListN.{length, length-append, length-map, length-replicate}
+use lib.ListN.{length, length-append, length-map}
 use borrow.Author.Tests.{le-ltb, lt-leb}
-use Rattle.reg_matrix.specs.Lists.{padded}
 use Rattle.reg_matrix.specs.Refusals.{refusal, shortBuffer}
 use Rattle.reg_matrix.specs.Table.{Table}
 use Rattle.reg_matrix.specs.Check.{check}
@@ -20,6 +19,7 @@ use Rattle.reg_matrix.specs.declared.ValueSegment.{ValueSegment}
 use Rattle.reg_matrix.specs.declared.Entry.{Entry}
 use Rattle.matrix.specs.declared.Moved.{Moved}
 use Rattle.matrix.specs.declared.Moved.the-variants.{Done}
+use Rattle.reg_matrix.proofs.Places.{padded-length}
 use Rattle.reg_matrix.proofs.Cells.{Cell}
 use Rattle.reg_matrix.proofs.Chains.{Sound}
 use Rattle.reg_matrix.proofs.Whole.{cells}
@@ -28,10 +28,6 @@ use Rattle.reg_matrix.proofs.Laws.{Matrix}
 use Rattle.matrix.proofs.Standing.{Stands}
 use Rattle.matrix.proofs.Lying.{AllSmall, allUses, UsesLie}
 use Rattle.matrix.proofs.Moving.{SmallCells, SmallPoints, assign-stands, evict-stands}
-
-padded-length : (n d : ℕ) (xs : List ℕ) → length xs ≤ n → length (padded n d xs) ≡ n
-unfolding padded
-padded-length n d xs h = simp (length-append, length-replicate) (omega arith)
 
 abbrev froms : List ValueSegment → List ℕ
 froms ss = map (λ s. s .from) ss

@@ -5,14 +5,14 @@ use native.Mathlib.Omega.{arith}
 use mathlib.Core.Path.{_≡_, refl, sym, ap, _∙_, subst}
 use mathlib.Core.Logic.{_⊎_, inl, inr}
 use mathlib.Core.Option.{none}
-use mathlib.Core.List.{List, [], _∷_, _++_, List·Memᴰ·head}
-use mathlib.Core.Bool.{Bool, true, false, _&&_}
-use lib.Dec.{T, eqb, leb, eqb-refl}
-use lib.ListN.{length, getD, length-append}
+use mathlib.Core.List.{List, [], _++_}
+use mathlib.Core.Bool.{Bool, true, false}
+use lib.Dec.{T, eqb, eqb-refl}
+use lib.ListN.{length, getD}
 use lib.Bits.{and-le-r}
 use lib.Count.{trailingZeros}
-use borrow.Author.Tests.{eqb-true, eqb-false, leb-true, leb-false}
-use Rattle.reg_matrix.specs.Lists.{keep, filter, concatMap, count}
+use borrow.Author.Tests.{eqb-true, eqb-false}
+use Rattle.reg_matrix.specs.Lists.{concatMap}
 use Rattle.reg_matrix.specs.Refusals.{rangesRefusal}
 use Rattle.reg_matrix.specs.Table.{Table, isUse, fixedUses, onUnit}
 use Rattle.reg_matrix.specs.Check.{checkOn, check}
@@ -27,17 +27,20 @@ use Rattle.reg_matrix.specs.declared.Reservation.{Reservation}
 use Rattle.reg_matrix.specs.declared.Reservation.the-variants.{Held, FixedUse, FixedDef}
 use Rattle.reg_matrix.specs.declared.Interference.{Interference}
 use Rattle.matrix.specs.declared.Move.the-variants.{Ends}
-use Rattle.reg_matrix.proofs.Members.{_∈_, unitsOf-out, fixedUses-out}
+use Rattle.reg_matrix.proofs.Members.{_∈_, fixedUses-out}
 use Rattle.reg_matrix.proofs.Cells.{Cell}
 use Rattle.reg_matrix.proofs.Chains.{Sound}
 use Rattle.reg_matrix.proofs.Apart.{entry-nonempty}
-use Rattle.reg_matrix.proofs.Capacity.{OfCell, filter-length}
+use Rattle.reg_matrix.proofs.Capacity.{OfCell}
 use Rattle.reg_matrix.proofs.Laws.{Matrix, table-size, entry-source, index-size, unit-chain}
 use Rattle.matrix.proofs.Starts.{Passed, ranges-passed}
 use Rattle.matrix.proofs.Walks.{remaining-step}
-use Rattle.matrix.proofs.UnitMaps.{no-units, units-lowest}
+use Rattle.matrix.proofs.UnitMaps.{no-units, first-unit, units-lowest}
 use Rattle.matrix.proofs.Decode.{SmallIndex, SmallReservation, Small, SmallUse}
 use Rattle.matrix.proofs.Reading.{Holds, Walkable}
+use Rattle.matrix.proofs.Lying.{AllSmall}
+use Rattle.matrix.proofs.Moving.{SmallCells}
+use Rattle.matrix.proofs.Reserved.{uses-few}
 use Rattle.matrix.proofs.UnitWalk.{unit-start, after, after-last, after-more}
 
 -- ---- no unit, and the lowest unit
@@ -61,9 +64,6 @@ check-lowest :
 unfolding check concatMap
 check-lowest full fixed t m ss h l = ap (concatMap (λ u. checkOn full (fixedUses fixed u) (onUnit u t) 0 [] ss)) (units-lowest m h l)
 
-lowest-unit : (m : ℕ) → 0 < m → m < 2 ^ 64 → trailingZeros 64 m < 64
-lowest-unit m h l = unitsOf-out m (trailingZeros 64 m) (subst (λ us. trailingZeros 64 m ∈ us) (sym (units-lowest m h l)) (List·Memᴰ·head refl)) .1
-
 -- ---- the whole walk
 
 module _ (fixed : List Entry) (t : Table) (W : Lent) (L : Holds fixed t W) (P : Walkable fixed t) (full : Bool) (f : getD (W .froms) 0 0 < 2 ^ 32) (p : Passed 0 (segmentsIn (W .froms) (W .tos) (W .values))) where
@@ -83,7 +83,7 @@ module _ (fixed : List Entry) (t : Table) (W : Lent) (L : Holds fixed t W) (P : 
       z e = omega arith
 
       low : trailingZeros 64 (suc m) < 64
-      low = lowest-unit (suc m) (omega arith) l
+      low = first-unit (suc m) (omega arith) l .small
 
       next : List Interference
       next = after fixed t W L P full (suc m) z low
@@ -119,66 +119,11 @@ check-walk fixed t W L P full m l f q = walk-map fixed t W L P full f (ranges-pa
 
 -- ---- tables that calls reach
 
--- what loading tested of the numbers of a fixed reservation, and of a cell
-pub record SmallFixed (e : Entry) : Type 0 where
-  pub unit : e .unit < 64
-  pub from : e .from < 2 ^ 32
-  pub to : e .to < 2 ^ 32
-  pub value : useValue (e .reservation) < 2 ^ 16
-  pub two : T (isUse (e .reservation)) → e .to ≡ e .from + 2
-
-pub record SmallCell (c : Cell) : Type 0 where
-  pub unit : c .u < 64
-  pub from : c .s .from < 2 ^ 32
-  pub to : c .s .to < 2 ^ 32
-  pub number : c .v + 2 < 2 ^ 16
-
--- the uses of all units are among the reservations
-split-off : (i : ℕ) (fs : List Entry) → length (fixedUses fs i) + length (filter (λ e. leb (suc i) (e .unit)) fs) ≤ length (filter (λ e. leb i (e .unit)) fs)
-unfolding fixedUses filter
-split-off i [] = omega arith
-split-off i (f ∷ fs) =
-    go (eqb (f .unit) i) refl (isUse (f .reservation)) (leb (suc i) (f .unit)) refl (leb i (f .unit)) refl (split-off i fs)
-  where
-    us : List Entry
-    us = filter (λ e. eqb (e .unit) i && isUse (e .reservation)) fs
-
-    later : List Entry
-    later = filter (λ e. leb (suc i) (e .unit)) fs
-
-    from : List Entry
-    from = filter (λ e. leb i (e .unit)) fs
-
-    go :
-        (a : Bool)
-        → eqb (f .unit) i ≡ a
-        → (b c : Bool)
-        → leb (suc i) (f .unit) ≡ c
-        → (d : Bool)
-        → leb i (f .unit) ≡ d
-        → length us + length later ≤ length from
-        → length (keep (a && b) f us) + length (keep c f later) ≤ length (keep d f from)
-    go true p b true q d r h = absurd (omega (arith, eqb-true (f .unit) i p, leb-true (suc i) (f .unit) q))
-    go true p true false q true r h = omega arith
-    go true p false false q true r h = omega arith
-    go true p b false q false r h = absurd (omega (arith, eqb-true (f .unit) i p, leb-false i (f .unit) r))
-    go false p b true q true r h = omega arith
-    go false p b true q false r h = absurd (omega (arith, leb-true (suc i) (f .unit) q, leb-false i (f .unit) r))
-    go false p b false q true r h = omega arith
-    go false p b false q false r h = h
-
-uses-among : (fixed : List Entry) (i k : ℕ) → length (concatMap (fixedUses fixed) (count i k)) ≤ length (filter (λ e. leb i (e .unit)) fixed)
-unfolding concatMap count
-uses-among fixed i zero = omega arith
-uses-among fixed i (suc k) = simp length-append (omega (arith, uses-among fixed (suc i) k, split-off i fixed))
-
-few-uses : (fixed : List Entry) (i k : ℕ) → length (concatMap (fixedUses fixed) (count i k)) ≤ length fixed
-few-uses fixed i k = omega (arith, uses-among fixed i k, filter-length (λ e. leb i (e .unit)) fixed)
-
+-- the fixed reservations, their uses and the cells held are small as loading tested, and a holder's number fits its field
 module _
     (fixed : List Entry) (sd : Sound fixed) (cs : List Cell) (t : Table) (mx : Matrix fixed cs t)
     (a : length fixed ≤ maxFixed) (b : length fixed + length cs ≤ maxEntries)
-    (sf : (e : Entry) → e ∈ fixed → SmallFixed e) (sc : (c : Cell) → c ∈ cs → SmallCell c)
+    (sf : AllSmall fixed) (sc : SmallCells cs) (sn : (c : Cell) → c ∈ cs → c .v + 2 < 2 ^ 16)
   where
     small-index : (j : FixedIndex) → ((i : ℕ) → j ≡ At i → i < length fixed) → SmallIndex j
     small-index NoIndex h = tt
@@ -203,7 +148,7 @@ module _
               to = omega (arith, o .to-is, s .to);
               reservation =
                   subst SmallReservation (sym (o .held-is))
-                  (s .number, small-index (fixedIndex fixed (k .0 .u) (k .0 .s) fixed) (λ i q. index-size fixed sd cs t mx e m (k .0 .v) i (o .held-is ∙ ap (Held (k .0 .v)) q) .1));
+                  (sn (k .0) (o .among), small-index (fixedIndex fixed (k .0 .u) (k .0 .s) fixed) (λ i q. index-size fixed sd cs t mx e m (k .0 .v) i (o .held-is ∙ ap (Held (k .0 .v)) q) .1));
             }
 
     use-is : (r : Reservation) → T (isUse r) → r ≡ FixedUse (useValue r)
@@ -215,7 +160,7 @@ module _
     use-small u f m =
         let k = fixedUses-out fixed u f m in
         let s = sf f (k .0) in
-        record { unit = s .unit; to = s .to; two = s .two (k .2); value = s .value; isuse = use-is (f .reservation) (k .2) }
+        record { unit = s .unit; to = s .to; two = s .use-to (k .2); value = s .value; isuse = use-is (f .reservation) (k .2) }
 
     pub matrix-walkable : Walkable fixed t
     matrix-walkable =
@@ -226,7 +171,7 @@ module _
           nonempty = entry-nonempty fixed cs t sd (mx .table);
           chain = unit-chain fixed sd cs t mx;
           index = λ e m v i q. omega (arith, index-size fixed sd cs t mx e m v i q .0);
-          few-uses = omega (arith, few-uses fixed 0 64);
+          few-uses = omega (arith, uses-few fixed);
           small-uses = use-small;
           use-chain = sd .chain;
         }

@@ -33,6 +33,7 @@ pub record SmallFixed (e : Entry) : Type 0 where
 abbrev pub AllSmall : List Entry → Type 0
 AllSmall fixed = (e : Entry) → e ∈ fixed → SmallFixed e
 
+-- the fixed uses of all units, as they are laid out
 abbrev pub allUses : List Entry → List Entry
 allUses fixed = concatMap (fixedUses fixed) (count 0 64)
 

@@ -9,7 +9,7 @@ use lib.ListN.{length, take, drop, getD, replicate, length-map}
 use lib.Seq.{getD-take}
 use lib.Count.{trailingZeros}
 use borrow.Author.Tests.{le-leb, lt-leb, eq-eqb, ne-eqb}
-use Rattle.reg_matrix.specs.Lists.{concatMap, count, padded}
+use Rattle.reg_matrix.specs.Lists.{padded}
 use Rattle.reg_matrix.specs.Table.{Table, fixedUses, onUnit}
 use Rattle.reg_matrix.specs.Layout.{maxEntries, maxFixed, greatest, endWord, restWord, useWord, endWords, restWords, useWords, entryOf}
 use Rattle.matrix.specs.Walk.{Lent, segmentAt, entryAt, entryStep, useStep, leaveUnit, unitStep, stepOf}
@@ -23,11 +23,8 @@ use Rattle.reg_matrix.proofs.Members.{_∈_}
 use Rattle.reg_matrix.proofs.Sorted.{Sorted}
 use Rattle.reg_matrix.proofs.Chains.{Chain}
 use Rattle.matrix.proofs.Walks.{cond-by}
+use Rattle.matrix.proofs.Lying.{allUses}
 use Rattle.matrix.proofs.Decode.{Small, SmallUse, entry-back, drop-inside, drop-past, word-at, word-past}
-
--- the fixed uses of all units, as they are laid out
-abbrev pub allUses : List Entry → List Entry
-allUses fixed = concatMap (fixedUses fixed) (count 0 64)
 
 -- what is lent holds the table and the fixed uses
 pub record Holds (fixed : List Entry) (t : Table) (W : Lent) : Type 0 where

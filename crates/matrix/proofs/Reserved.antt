@@ -24,6 +24,7 @@ use Rattle.reg_matrix.proofs.Tests.{less-equal-greater}
 use Rattle.reg_matrix.proofs.Members.{_∈_, concat-none, count-out}
 use Rattle.reg_matrix.proofs.Sorted.{Sorted}
 use Rattle.reg_matrix.proofs.Chains.{Sound}
+use Rattle.reg_matrix.proofs.Places.{concat-same}
 use Rattle.matrix.proofs.Shifts.{filled-is}
 use Rattle.matrix.proofs.Standing.{SmallEnds, Stands, room-inserted, insert-stands}
 use Rattle.matrix.proofs.Lying.{SmallFixed, AllSmall, allUses, UsesLie, first-use, use-place, use-count}
@@ -61,11 +62,6 @@ filter-last p (x ∷ xs) e = go (p x) (filter-last p xs e)
     go : (b : Bool) → filter p (xs ++ e ∷ []) ≡ filter p xs ++ keep (p e) e [] → keep b x (filter p (xs ++ e ∷ [])) ≡ keep b x (filter p xs) ++ keep (p e) e []
     go true ih = ap (λ l. x ∷ l) ih
     go false ih = ih
-
-concat-same : (f g : ℕ → List Entry) (ks : List ℕ) → ((k : ℕ) → k ∈ ks → f k ≡ g k) → concatMap f ks ≡ concatMap g ks
-unfolding concatMap
-concat-same f g [] h = refl
-concat-same f g (k ∷ ks) h = ap₂ (λ (a b : List Entry). a ++ b) (h k (List·Memᴰ·head refl)) (concat-same f g ks (λ j m. h j (List·Memᴰ·tail m)))
 
 module _ (fixed : List Entry) (e : Entry) where
   abbrev more : List Entry

@@ -4,12 +4,12 @@ use native.Mathlib.Numerals.{add-one}
 use native.Mathlib.Omega.{arith}
 use mathlib.Core.Path.{_≡_, refl, sym, ap, _∙_, subst}
 use mathlib.Core.Logic.{_⊎_, inl, inr}
-use mathlib.Core.List.{List, [], _∷_, List·Memᴰ·cases-cons}
+use mathlib.Core.List.{List, [], _∷_, map, List·Memᴰ·head, List·Memᴰ·tail, List·Memᴰ·cases-cons}
 use mathlib.Core.Option.{Option, none, some}
-use mathlib.Core.Bool.{Bool, true, false, _||_, cond}
-use lib.Dec.{ltb, leb, eqb}
+use mathlib.Core.Bool.{Bool, true, false, not, _||_, cond}
+use lib.Dec.{T, ltb, leb, eqb}
 use lib.ListN.{length, take, getD, length-take}
-use borrow.Author.Tests.{le-leb, lt-leb, ne-eqb, leb-false, ltb-false}
+use borrow.Author.Tests.{le-leb, lt-leb, le-ltb, ne-eqb, leb-false, ltb-false}
 use Rattle.reg_matrix.specs.Lists.{isNil}
 use Rattle.reg_matrix.specs.Refusals.{refusal, orThen, shortBuffer, badSlot, rangeRefusal, rangesRefusal}
 use Rattle.reg_matrix.specs.Questions.{checkLimits, checkRefusal}
@@ -110,6 +110,36 @@ ranges-passed past (s ∷ ss) q = go (rangeRefusal past s) refl q (λ p. ranges-
     go : (o : Option ℕ) → rangeRefusal past s ≡ o → orThen o (rangesRefusal (s .to) ss) ≡ none → (rangesRefusal (s .to) ss ≡ none → Passed (s .to) ss) → Passed past (s ∷ ss)
     go none e p ih = both (range-passed past s e) (ih p)
     go (some n) e p ih = let z : _≡_ {A = ℕ} 0 1 = cc in absurd (omega arith)
+
+-- and such ranges, with no point in slot 3, no test refuses
+pub passed-ranges : (past : ℕ) (ss : List ValueSegment) → Passed past ss → ((s : ValueSegment) → s ∈ ss → T (not (badSlot (s .from) || badSlot (s .to)))) → rangesRefusal past ss ≡ none
+unfolding rangesRefusal rangeRefusal refusal
+passed-ranges past [] p h = refl
+passed-ranges past (s ∷ ss) p h =
+    let a : leb (s .to) (s .from) ≡ false = lt-leb (s .to) (s .from) (p .nonempty s (List·Memᴰ·head refl)) in
+    let c : ltb (s .from) past ≡ false = le-ltb (s .from) past (p .behind s (List·Memᴰ·head refl)) in
+    let b : (badSlot (s .from) || badSlot (s .to)) ≡ false = false-is (badSlot (s .from) || badSlot (s .to)) (h s (List·Memᴰ·head refl)) in
+    let later : Passed (s .to) ss = record { nonempty = λ x m. p .nonempty x (List·Memᴰ·tail m); rising = p .rising .1; behind = p .rising .0 } in
+    rw (a, b, c) (passed-ranges (s .to) ss later (λ x m. h x (List·Memᴰ·tail m)))
+  where
+    false-is : (z : Bool) → T (not z) → z ≡ false
+    false-is true t = absurd t
+    false-is false t = refl
+
+-- ---- segments as three lists of numbers
+
+later-segments : (f t v : ℕ) (fs ts vs : List ℕ) (n k : ℕ) → segmentsFrom (f ∷ fs) (t ∷ ts) (v ∷ vs) (suc n) k ≡ segmentsFrom fs ts vs n k
+unfolding segmentsFrom
+later-segments f t v fs ts vs n zero = refl
+later-segments f t v fs ts vs n (suc k) = ap (λ (l : List ValueSegment). segmentAt fs ts vs n ∷ l) (later-segments f t v fs ts vs (suc n) k)
+
+-- their points and values stand for the segments
+pub segments-back : (ss : List ValueSegment) → segmentsIn (map (λ s. s .from) ss) (map (λ s. s .to) ss) (map (λ s. s .value) ss) ≡ ss
+unfolding segmentsFrom
+segments-back [] = refl
+segments-back (s ∷ ss) =
+    ap (λ (l : List ValueSegment). s ∷ l)
+    (later-segments (s .from) (s .to) (s .value) (map (λ s. s .from) ss) (map (λ s. s .to) ss) (map (λ s. s .value) ss) 0 (length (map (λ s. s .from) ss)) ∙ segments-back ss)
 
 module _ (fs ts vs : List ℕ) where
   pub segments-length : (n k : ℕ) → length (segmentsFrom fs ts vs n k) ≡ k

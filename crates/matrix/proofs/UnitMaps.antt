@@ -1,41 +1,95 @@
 -- A map of units is walked from its lowest one bit: its units are the one that the trailing zeros give, then those of the map without it.
 -- Assumes nothing.
-use Prim.Native.Nat.{ℕ, zero, suc, _+_, _-_, _*_, _/_, _%_, _^_, _<_, min}
+use Prim.Native.Nat.{ℕ, zero, suc, _+_, _-_, _*_, _/_, _%_, _^_, _≤_, _<_, min}
+use native.Mathlib.Numerals.{add-one}
+use native.Mathlib.Nat.{zero-add, pow-suc}
 use native.Mathlib.Omega.{arith}
-use native.Mathlib.Nat.{div-div-eq-div-mul, div-one, pow-suc}
+use native.Mathlib.Decide.{decLt}
 use mathlib.Core.Path.{_≡_, refl, sym, ap, _∙_}
 use mathlib.Core.List.{List, [], _∷_}
 use lib.Dec.{eqb}
 use lib.Bits.{bitAnd, and-step, and-self}
-use lib.Count.{trailingZeros}
+use lib.Count.{trailingZeros, under}
+use lib.Pow.{pow-mono, shr-shr}
 use Rattle.reg_matrix.specs.Lists.{keep, filter, count, bit}
 use Rattle.reg_matrix.specs.Table.{unitsOf}
 use Rattle.matrix.specs.Walk.{laterUnits}
 
--- the one bits of n, of k that are looked at, where the lowest has the number i
-digitsFrom : ℕ → ℕ → ℕ → List ℕ
-digitsFrom i zero n = []
-digitsFrom i (suc k) n = keep (eqb (n % 2) 1) i (digitsFrom (suc i) k (n / 2))
+-- the places, from k on, of the one bits among x's lowest n
+onesFrom : ℕ → ℕ → ℕ → List ℕ
+onesFrom k zero x = []
+onesFrom k (suc n) x = keep (eqb (x % 2) 1) k (onesFrom (suc k) n (x / 2))
 
-digits-are : (m i k : ℕ) → filter (λ u. bit u m) (count i k) ≡ digitsFrom i k (m / 2 ^ i)
-unfolding filter count digitsFrom
-digits-are m i zero = refl
-digits-are m i (suc k) =
-    let e : m / 2 ^ suc i ≡ m / 2 ^ i / 2 = rw (pow-suc 2 i) (sym (div-div-eq-div-mul m (2 ^ i) 2)) in
-    ap (keep (eqb (m / 2 ^ i % 2) 1) i) (digits-are m (suc i) k ∙ ap (digitsFrom (suc i) k) e)
+units-from : (k n m : ℕ) → filter (λ u. bit u m) (count k n) ≡ onesFrom k n (m / 2 ^ k)
+unfolding filter count onesFrom
+units-from k zero m = refl
+units-from k (suc n) m =
+    let e : m / 2 ^ k / 2 ≡ m / 2 ^ suc k = shr-shr m k 1 ∙ ap (λ (j : ℕ). m / 2 ^ j) (add-one k) in
+    ap (λ (l : List ℕ). keep (bit k m) k l) (units-from (suc k) n m ∙ ap (onesFrom (suc k) n) (sym e))
 
-even : (i k n c : ℕ) → n % 2 ≡ 0 → n / 2 ≡ c → digitsFrom i (suc k) n ≡ digitsFrom (suc i) k c
-unfolding digitsFrom
-even i k n c p q = rw (p, q)
+-- the lowest one bit, and the others
+lowest : (k n x : ℕ) → 0 < x → x < 2 ^ n → (2 ^ trailingZeros n x ≤ x) × (onesFrom k n x ≡ (k + trailingZeros n x) ∷ onesFrom k n (x - 2 ^ trailingZeros n x))
+unfolding onesFrom trailingZeros
+lowest k zero x h l = absurd (omega arith)
+lowest k (suc n) x h l = go (x % 2) refl (λ a b. lowest (suc k) n (x / 2) a b)
+  where
+    Goal : ℕ → Type 0
+    Goal r =
+        (2 ^ under r (trailingZeros n (x / 2)) ≤ x)
+        × (keep (eqb (x % 2) 1) k (onesFrom (suc k) n (x / 2))
+        ≡ (k + under r (trailingZeros n (x / 2))) ∷ onesFrom k (suc n) (x - 2 ^ under r (trailingZeros n (x / 2))))
 
-odd : (i k n c : ℕ) → n % 2 ≡ 1 → n / 2 ≡ c → digitsFrom i (suc k) n ≡ i ∷ digitsFrom (suc i) k c
-unfolding digitsFrom
-odd i k n c p q = rw (p, q)
+    Lower : Type 0
+    Lower =
+        (2 ^ trailingZeros n (x / 2) ≤ x / 2)
+        × (onesFrom (suc k) n (x / 2) ≡ (suc k + trailingZeros n (x / 2)) ∷ onesFrom (suc k) n (x / 2 - 2 ^ trailingZeros n (x / 2)))
 
-none-set : (i k : ℕ) → digitsFrom i k 0 ≡ []
-unfolding digitsFrom
-none-set i zero = refl
-none-set i (suc k) = even i k 0 0 refl refl ∙ none-set (suc i) k
+    go : (r : ℕ) → x % 2 ≡ r → (0 < x / 2 → x / 2 < 2 ^ n → Lower) → Goal r
+    go zero q ih =
+        let p : 2 ^ suc n ≡ 2 ^ n * 2 = pow-suc 2 n in
+        let i : Lower = ih (omega arith) (omega arith) in
+        let t : ℕ = trailingZeros n (x / 2) in
+        let d : 2 ^ suc t ≡ 2 ^ t * 2 = pow-suc 2 t in
+        let a : (x - 2 ^ suc t) % 2 ≡ 0 = omega (arith, i .0) in
+        let b : (x - 2 ^ suc t) / 2 ≡ x / 2 - 2 ^ t = omega (arith, i .0) in
+        let c : suc k + t ≡ k + suc t = omega arith in
+        (omega (arith, i .0), rw (q, a, b, ← c) (i .1))
+    go (suc zero) q ih =
+        let a : (x - 1) % 2 ≡ 0 = omega arith in
+        let b : (x - 1) / 2 ≡ x / 2 = omega arith in
+        let c : k + 0 ≡ k = omega arith in
+        (omega arith, rw (q, a, b, c))
+    go (suc (suc r)) q ih = absurd (omega arith)
+
+-- the first unit of a map, and the others
+pub record FirstUnit (m : ℕ) : Type 0 where
+  pub small : trailingZeros 64 m < 64
+  pub within : 2 ^ trailingZeros 64 m ≤ m
+  pub others : unitsOf m ≡ trailingZeros 64 m ∷ unitsOf (m - 2 ^ trailingZeros 64 m)
+
+pub first-unit : (m : ℕ) → 0 < m → m < 2 ^ 64 → FirstUnit m
+unfolding unitsOf
+first-unit m h l =
+    let k = lowest 0 64 m h l in
+    record {
+      small = elim (decLt (trailingZeros 64 m) 64) as (λ _. trailingZeros 64 m < 64) [ yes a ↦ a | no a ↦ absurd (large (omega arith) (k .0)) ];
+      within = k .0;
+      others =
+          whole m ∙ rw (zero-add (trailingZeros 64 m)) at (k .1)
+          ∙ ap (λ (x : List ℕ). trailingZeros 64 m ∷ x) (sym (whole (m - 2 ^ trailingZeros 64 m)));
+    }
+  where
+    whole : (x : ℕ) → filter (λ u. bit u x) (count 0 64) ≡ onesFrom 0 64 x
+    whole x = let e : x / 2 ^ 0 ≡ x = omega arith in units-from 0 64 x ∙ ap (onesFrom 0 64) e
+
+    large : {i : ℕ} → 64 ≤ i → 2 ^ i ≤ m → ⊥
+    large a b = omega (arith, pow-mono a)
+
+pub no-units : unitsOf 0 ≡ []
+unfolding unitsOf filter count
+no-units = refl
+
+-- ---- the map without its lowest one bit, as the check takes it off
 
 zeros-even : (k n : ℕ) → n % 2 ≡ 0 → trailingZeros (suc k) n ≡ suc (trailingZeros k (n / 2))
 unfolding trailingZeros
@@ -60,39 +114,19 @@ off-odd n p =
     and-step n (n - 1)
     ∙ (ap (λ x. bitAnd (n / 2) ((n - 1) / 2) * 2 + x) c ∙ (ap (λ x. bitAnd (n / 2) x * 2 + 0) a ∙ (ap (λ x. x * 2 + 0) (and-self (n / 2)) ∙ omega arith)))
 
-lowest : (k i n : ℕ) → 0 < n → n < 2 ^ k → digitsFrom i k n ≡ (i + trailingZeros k n) ∷ digitsFrom i k (laterUnits n)
-lowest zero i n h l = absurd (omega arith)
-lowest (suc k) i n h l = go (n % 2) refl (omega arith) (λ p q. lowest k (suc i) (n / 2) p q)
+later-is : (k n : ℕ) → 0 < n → n < 2 ^ k → laterUnits n ≡ n - 2 ^ trailingZeros k n
+later-is zero n h l = absurd (omega arith)
+later-is (suc k) n h l = go (n % 2) refl (λ p q. later-is k (n / 2) p q)
   where
-    go :
-        (r : ℕ)
-        → n % 2 ≡ r
-        → n % 2 < 2
-        → (0 < n / 2 → n / 2 < 2 ^ k → digitsFrom (suc i) k (n / 2) ≡ (suc i + trailingZeros k (n / 2)) ∷ digitsFrom (suc i) k (laterUnits (n / 2)))
-        → digitsFrom i (suc k) n ≡ (i + trailingZeros (suc k) n) ∷ digitsFrom i (suc k) (laterUnits n)
-    go zero p b ih =
-        let e : i + trailingZeros (suc k) n ≡ suc i + trailingZeros k (n / 2) = omega (arith, zeros-even k n p) in
-        let d = off-even n h p in
-        even i k n (n / 2) p refl
-        ∙ (ih (omega arith) (omega (arith, pow-suc 2 k))
-        ∙ sym (ap (λ x. x ∷ digitsFrom i (suc k) (laterUnits n)) e ∙ ap (λ l. (suc i + trailingZeros k (n / 2)) ∷ l) (even i k (laterUnits n) (laterUnits (n / 2)) (omega arith) (omega arith))))
-    go (suc zero) p b ih =
-        let e : i + trailingZeros (suc k) n ≡ i = omega (arith, zeros-odd k n p) in
-        let d = off-odd n p in
-        odd i k n (n / 2) p refl
-        ∙ sym (ap (λ x. x ∷ digitsFrom i (suc k) (laterUnits n)) e ∙ ap (λ l. i ∷ l) (even i k (laterUnits n) (n / 2) (omega arith) (omega arith)))
-    go (suc (suc r)) p b ih = absurd (omega arith)
-
-units-are : (m : ℕ) → unitsOf m ≡ digitsFrom 0 64 m
-unfolding unitsOf
-units-are m = digits-are m 0 64 ∙ ap (digitsFrom 0 64) (div-one m)
-
-pub no-units : unitsOf 0 ≡ []
-no-units = units-are 0 ∙ none-set 0 64
+    go : (r : ℕ) → n % 2 ≡ r → (0 < n / 2 → n / 2 < 2 ^ k → laterUnits (n / 2) ≡ n / 2 - 2 ^ trailingZeros k (n / 2)) → laterUnits n ≡ n - 2 ^ trailingZeros (suc k) n
+    go zero p ih =
+        let t : ℕ = trailingZeros k (n / 2) in
+        let d : 2 ^ suc t ≡ 2 ^ t * 2 = pow-suc 2 t in
+        let i : laterUnits (n / 2) ≡ n / 2 - 2 ^ t = ih (omega arith) (omega (arith, pow-suc 2 k)) in
+        let e = off-even n h p in
+        rw (zeros-even k n p) (omega arith)
+    go (suc zero) p ih = let e = off-odd n p in rw (zeros-odd k n p) (omega arith)
+    go (suc (suc r)) p ih = absurd (omega arith)
 
 pub units-lowest : (m : ℕ) → 0 < m → m < 2 ^ 64 → unitsOf m ≡ trailingZeros 64 m ∷ unitsOf (laterUnits m)
-units-lowest m h l =
-    units-are m ∙ (lowest 64 0 m h l ∙ (ap (λ x. x ∷ digitsFrom 0 64 (laterUnits m)) (zero-plus (trailingZeros 64 m)) ∙ ap (λ l. trailingZeros 64 m ∷ l) (sym (units-are (laterUnits m)))))
-  where
-    zero-plus : (x : ℕ) → 0 + x ≡ x
-    zero-plus x = omega arith
+units-lowest m h l = first-unit m h l .others ∙ ap (λ (x : ℕ). trailingZeros 64 m ∷ unitsOf x) (sym (later-is 64 m h l))

@@ -36,9 +36,11 @@ use Rattle.matrix.proofs.Halves.{none-below, below-cons, place-searched
 use Rattle.matrix.proofs.Starts.{or-none}
 use Rattle.matrix.proofs.Walks.{remaining-step}
 use Rattle.matrix.proofs.Passing.{ahead, behind, meets, counts-same, counts-stay, counts-once, check-end, check-empty, pass-entry, pass-segment, pass-stay, pass-on}
-use Rattle.matrix.proofs.UseWords.{uses-at, back-other, below-front, padded-length, taken-length}
+use Rattle.reg_matrix.proofs.Places.{padded-length}
+use Rattle.matrix.proofs.UseWords.{uses-at, back-other, below-front, taken-length}
 use Rattle.matrix.proofs.Decode.{Small, SmallUse, ends-rise, ends-below, rises-append, replicate-in, replicate-rises, map-out, use-back, use-value, drop-next, drop-inside}
-use Rattle.matrix.proofs.Reading.{allUses, Holds, Walkable, entry-here, entry-past, use-here, use-past, step-no-segment, step-no-entry, step-other, step-entry, step-use}
+use Rattle.matrix.proofs.Lying.{allUses}
+use Rattle.matrix.proofs.Reading.{Holds, Walkable, entry-here, entry-past, use-here, use-past, step-no-segment, step-no-entry, step-other, step-entry, step-use}
 
 or-true : (b : Bool) → b || true ≡ true
 or-true true = refl

@@ -6,7 +6,7 @@ use mathlib.Core.Logic.{_⊎_, inl, inr}
 use mathlib.Core.List.{List, [], _∷_, _++_, map, map-append, append-assoc, List·Memᴰ·head, List·Memᴰ·tail, List·Memᴰ·append-cases}
 use mathlib.Core.Bool.{Bool, true, false}
 use lib.Dec.{ltb}
-use lib.ListN.{length, take, drop, replicate, length-append, length-map, length-take, length-replicate}
+use lib.ListN.{length, take, drop, replicate, length-map, length-take}
 use lib.Seq.{drop-append-add, drop-append-le}
 use borrow.Author.Tests.{lt-ltb, le-ltb}
 use Rattle.reg_matrix.specs.Lists.{filter, concatMap, count, padded}
@@ -17,14 +17,10 @@ use Rattle.reg_matrix.specs.declared.Entry.{Entry}
 use Rattle.reg_matrix.proofs.Members.{_∈_, concat-out, count-out, fixedUses-out}
 use Rattle.reg_matrix.proofs.Chains.{Chain}
 use Rattle.matrix.proofs.Halves.{none-below, below-cons, place-searched}
+use Rattle.reg_matrix.proofs.Places.{concat-append, padded-length}
 use Rattle.matrix.proofs.Decode.{SmallUse, rises-append, replicate-in, replicate-rises, map-out, uses-below}
 
 -- ---- lists
-
-pub concat-append : {A B : Type 0} (f : A → List B) (xs ys : List A) → concatMap f (xs ++ ys) ≡ concatMap f xs ++ concatMap f ys
-unfolding concatMap
-concat-append f [] ys = refl
-concat-append f (x ∷ xs) ys = ap (λ l. f x ++ l) (concat-append f xs ys) ∙ sym (append-assoc (f x) (concatMap f xs) (concatMap f ys))
 
 concat-cons : {A B : Type 0} (f : A → List B) (x : A) (xs : List A) → concatMap f (x ∷ xs) ≡ f x ++ concatMap f xs
 unfolding concatMap
@@ -56,11 +52,6 @@ below-front key (x ∷ xs) ys k = go (ltb x key) refl (below-front key xs ys k)
     go : (b : Bool) → ltb x key ≡ b → below key (xs ++ ys) ≡ below key xs → below key (x ∷ (xs ++ ys)) ≡ below key (x ∷ xs)
     go true q ih = below-cons key x (xs ++ ys) true q ∙ (ap suc ih ∙ sym (below-cons key x xs true q))
     go false q ih = below-cons key x (xs ++ ys) false q ∙ (ih ∙ sym (below-cons key x xs false q))
-
--- a list up to n places has n
-pub padded-length : (n d : ℕ) (xs : List ℕ) → length xs ≤ n → length (padded n d xs) ≡ n
-unfolding padded
-padded-length n d xs h = simp (length-append, length-replicate) (omega arith)
 
 pub taken-length : (n : ℕ) (ws xs : List ℕ) → take n ws ≡ xs → length xs ≡ n → n ≤ length ws
 taken-length n ws xs q h = omega (arith, simp length-take at (ap length q))

@@ -2,8 +2,8 @@
 -- the cells held, `t` the table. `Matrix fixed cs t` is what placing and evicting keep; `Segments fixed ss` is what loading tested of a virtual
 -- register's segments. Every law on the check is one on either form (`full`). Assumes nothing.
 use Prim.Native.Nat.{ℕ, _+_, _<_, _≤_}
-use mathlib.Core.Path.{_≡_}
-use mathlib.Core.Logic.{_⊎_, _↔_, Iff·trans, Iff·symm}
+use mathlib.Core.Path.{_≡_, sym, _∙_}
+use mathlib.Core.Logic.{_⊎_, inl, inr, _↔_, Iff·trans, Iff·symm}
 use mathlib.Core.List.{List, [], _++_}
 use mathlib.Core.Bool.{Bool, true, false}
 use lib.Dec.{T}
@@ -22,11 +22,12 @@ use Rattle.reg_matrix.specs.declared.InterferenceKind.the-variants.{Virt
 use Rattle.reg_matrix.proofs.Members.{_∈_}
 use Rattle.reg_matrix.proofs.Sorted.{Parted}
 use Rattle.reg_matrix.proofs.Cells.{Cell, IsTable, Among, is-among, decided-by-cells}
-use Rattle.reg_matrix.proofs.Chains.{Chain, Sound}
+use Rattle.reg_matrix.proofs.Chains.{Chain, Sound, not-held}
 use Rattle.reg_matrix.proofs.Whole.{cells, AllFree, Joins, joins-append, joins-middle, middle-first, evict-law, evict-assign}
 use Rattle.reg_matrix.proofs.Clear.{Segments, clear-cells, free-clear, clear-joins, assign-clear}
 use Rattle.reg_matrix.proofs.Fresh.{fresh-law}
 use Rattle.reg_matrix.proofs.Room.{room}
+use Rattle.reg_matrix.proofs.Reported.{reported-held}
 use Rattle.reg_matrix.proofs.Apart as apart
 use Rattle.reg_matrix.proofs.Spare.{Clears, spare-law}
 use Rattle.reg_matrix.proofs.Capacity as capacity
@@ -35,6 +36,9 @@ use Rattle.reg_matrix.proofs.Capacity as capacity
 pub record Matrix (fixed : List Entry) (cs : List Cell) (t : Table) : Type 0 where
   pub table : IsTable fixed cs t
   pub joined : Joins fixed [] cs
+
+same-holder : (v w : ℕ) (i k : FixedIndex) → Held v i ≡ Held w k → v ≡ w
+same-holder v w i k q = cc
 
 -- ---- what the table is
 
@@ -69,6 +73,16 @@ module _ (fixed : List Entry) (sd : Sound fixed) (cs : List Cell) (t : Table) (m
       → (v : ℕ)
       → AllFree fixed left v m ss
   reports-cover full m ss g evictable left sub away v = room full fixed cs t m ss sd (mx .table) g evictable left sub away v
+
+  -- whoever is reported has a cell
+  pub report-cell : (full : Bool) (m : ℕ) (ss : List ValueSegment) (r : Interference) (w : ℕ) → r ∈ check full fixed t m ss → r .kind ≡ VirtReg w → (c : Cell) × (c ∈ cs) × (c .v ≡ w)
+  report-cell full m ss r w l q =
+      let h = reported-held full fixed t m ss r w q l in
+      go (h .entry) (h .index) (h .held) (capacity.entry-source fixed cs t (mx .table) (h .entry) (h .there))
+    where
+      go : (e : Entry) (i : FixedIndex) → e .reservation ≡ Held w i → (e ∈ fixed) ⊎ ((c : Cell) × capacity.OfCell fixed cs e c) → (c : Cell) × (c ∈ cs) × (c .v ≡ w)
+      go e i p (inl f) = absurd (not-held fixed sd e f w i p)
+      go e i p (inr k) = let z : k .0 .v ≡ w = same-holder (k .0 .v) w _ i (sym (k .1 .held-is) ∙ p) in (k .0, k .1 .among, z)
 
   -- ---- placing
 

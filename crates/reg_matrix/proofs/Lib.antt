@@ -2,6 +2,7 @@ pub mod Opened
 pub mod Checks
 pub mod Tests
 pub mod Members
+pub mod Places
 pub mod Sorted
 pub mod Cells
 pub mod Chains
@@ -10,6 +11,7 @@ pub mod Whole
 pub mod Clear
 pub mod Fresh
 pub mod Room
+pub mod Reported
 pub mod Apart
 pub mod Capacity
 pub mod Spare

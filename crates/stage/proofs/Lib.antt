@@ -2,3 +2,5 @@ pub mod AllocateLaws
 pub mod OrderLaws
 pub mod QueueLaws
 pub mod EvictLaws
+pub mod Reached
+pub mod ReachedMoves

@@ -15,6 +15,7 @@ use lib.ListN.{length, take, drop, getD, set, length-append, length-take, length
 use lib.Seq.{getD-set-same, getD-set-other, set-append-left, drop-set-lt, drop-set-add, getD-take, getD-drop, getD-append-add, drop-at, drop-cons, ext-getD}
 use borrow.Author.Tests.{lt-ltb, le-ltb, ne-eqb, ltb-true, ltb-false}
 use Rattle.reg_matrix.specs.Lists.{count, isNil, padded}
+use Rattle.reg_matrix.proofs.Places.{replicate-default, from-zero, count-length}
 use Rattle.job.specs.declared.Hint.{Hint}
 use Rattle.job.specs.Model.{Job, VirtReg, noVirtReg, virtReg}
 use Rattle.job.specs.Layout.{startsFrom, jobBuffers}
@@ -450,19 +451,8 @@ mark-decoded j (some q) o = ap (λ x. decoded (x + 1)) (o .0) ∙ key-decoded j 
 -- ---- the queue of a state
 
 -- a function of the numbers, as a list, read at a place
-at-number : (g : ℕ → ℕ) (v n i : ℕ) → i < n → getD (map g (count v n)) i 0 ≡ g (v + i)
-unfolding count
-at-number g v zero i h = absurd (omega arith)
-at-number g v (suc n) zero h = rw add-zero
-at-number g v (suc n) (suc i) h = let e : v + suc i ≡ suc v + i = omega arith in rw e (at-number g (suc v) n i (omega arith))
-
-from-zero : (g : ℕ → ℕ) (n i : ℕ) → i < n → getD (map g (count 0 n)) i 0 ≡ g i
-from-zero g n i h = let e : 0 + i ≡ i = omega arith in at-number g 0 n i h ∙ ap g e
-
-count-length : (v n : ℕ) → length (count v n) ≡ n
-unfolding count
-count-length v zero = refl
-count-length v (suc n) = ap suc (count-length (suc v) n)
+key-at : (g : ℕ → ℕ) (n i : ℕ) → i < n → getD (map g (count 0 n)) i 0 ≡ g i
+key-at g n i h = from-zero g 0 n i h
 
 numbers-length : (g : ℕ → ℕ) → length (map g (count 0 512)) ≡ 512
 numbers-length g = length-map (count 0 512) g ∙ count-length 0 512
@@ -471,7 +461,7 @@ numbers-length g = length-map (count 0 512) g ∙ count-length 0 512
 same-numbers : (f g : ℕ → ℕ) (n : ℕ) → ((v : ℕ) → v < n → f v ≡ g v) → map f (count 0 n) ≡ map g (count 0 n)
 same-numbers f g n h =
     ext-getD 0 (map f (count 0 n)) (map g (count 0 n)) (length-map (count 0 n) f ∙ sym (length-map (count 0 n) g))
-    (λ i b. let l : i < n = omega (arith, length-map (count 0 n) f, count-length 0 n) in from-zero f n i l ∙ h i l ∙ sym (from-zero g n i l))
+    (λ i b. let l : i < n = omega (arith, length-map (count 0 n) f, count-length 0 n) in key-at f n i l ∙ h i l ∙ sym (key-at g n i l))
 
 tournament-length : (j : Job) (s : State) → length (queueWords j s) ≡ 1024
 unfolding queueWords
@@ -507,13 +497,13 @@ module _ (j : Job) (s : State) (b : List ℕ) (size : length (s .queued) ≡ 512
           let ks = map (λ u. keyWord j u (getD (s .queued) u none)) (count 0 512) in
           rw d (getD-set-same ks v (keyWord j v q) 0 (omega (arith, numbers-length (λ u. keyWord j u (getD (s .queued) u none)))))
           ∙ ap (keyWord j v) (sym (getD-set-same (s .queued) v q none (omega arith)))
-          ∙ sym (rw d (from-zero (λ u. keyWord j u (getD (t .queued) u none)) 512 v h ∙ rw e))
+          ∙ sym (rw d (key-at (λ u. keyWord j u (getD (t .queued) u none)) 512 v h ∙ rw e))
       at-place i l (no d) =
           let ks = map (λ u. keyWord j u (getD (s .queued) u none)) (count 0 512) in
           getD-set-other ks v i (keyWord j v q) 0 d
-          ∙ from-zero (λ u. keyWord j u (getD (s .queued) u none)) 512 i l
+          ∙ key-at (λ u. keyWord j u (getD (s .queued) u none)) 512 i l
           ∙ ap (keyWord j i) (sym (getD-set-other (s .queued) v i q none d))
-          ∙ sym (from-zero (λ u. keyWord j u (getD (t .queued) u none)) 512 i l ∙ rw e)
+          ∙ sym (key-at (λ u. keyWord j u (getD (t .queued) u none)) 512 i l ∙ rw e)
 
 -- the queue written from words that agree with the state's
 pub filled-tournament : (j : Job) (s : State) (f : ℕ → ℕ) (b : List ℕ) → 1024 ≤ length b → ((v : ℕ) → v < 512 → f v ≡ keyWord j v (getD (s .queued) v none)) → filled f b ≡ queueWords j s ++ drop 1024 b
@@ -555,16 +545,11 @@ module _ {A : Type 0} where
   unfolding padded
   padded-at n d e xs i h = List·getD-append xs (replicate (n - length xs) d) e i h
 
-  only-default : (n : ℕ) (d : A) (i : ℕ) → getD (replicate n d) i d ≡ d
-  only-default zero d i = refl
-  only-default (suc n) d zero = refl
-  only-default (suc n) d (suc i) = only-default n d i
-
   padded-past : (n : ℕ) (d : A) (xs : List A) (i : ℕ) → length xs ≤ i → getD (padded n d xs) i d ≡ d
   unfolding padded
   padded-past n d xs i h =
       let e : length xs + (i - length xs) ≡ i = omega arith in
-      rw e at (getD-append-add xs (replicate (n - length xs) d) (i - length xs) d) ∙ only-default (n - length xs) d (i - length xs)
+      rw e at (getD-append-add xs (replicate (n - length xs) d) (i - length xs) d) ∙ replicate-default (n - length xs) (i - length xs) d
 
 -- a virtual register has hints where the next one's start is greater
 more-starts : (hs : List Hint) (a : ℕ) → ltb a (a + length hs) ≡ not (isNil hs)

@@ -1,7 +1,7 @@
 use native.Mathlib.Omega.{arith}
 use lib.Count.{trailingZeros}
 use lib.Pow.{pow-pos}
-use Rattle.matrix.proofs.PlacingWalks.{FirstUnit, first-unit}
+use Rattle.matrix.proofs.UnitMaps.{FirstUnit, first-unit}
 use Rattle.matrix.proofs.assign.without_lowest.Statement.{statement}
 use Rattle.matrix.proofs.assign.without_lowest.Tie as tie
 
