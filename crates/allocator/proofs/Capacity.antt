@@ -5,9 +5,10 @@ use native.Mathlib.Omega.{arith}
 use native.Mathlib.Nat.{zero-add, add-zero, zero-mul, suc-mul, mul-le-mul-right, min-le-right}
 use mathlib.Core.Path.{_≡_, refl, sym, _∙_, subst}
 use mathlib.Core.Logic.{_⊎_, inl, inr}
-use mathlib.Core.List.{List, [], _∷_, map}
+use mathlib.Core.List.{List, [], _∷_, _++_, map}
 use mathlib.Core.Option.{Option, none, some}
 use mathlib.Core.Bool.{Bool, true, false, cond}
+use lib.Dec.{eqb}
 use lib.Ieee.{Float, binary32, add, lt}
 use lib.ListN.{length, getD, length-append, length-map, List·getD-eq-default}
 use Rattle.reg_matrix.specs.Lists.{concatMap, count, foldl, isNil}
@@ -23,11 +24,12 @@ use Rattle.reg_matrix.proofs.Tests.{less-equal-greater}
 use Rattle.reg_matrix.proofs.Members.{_∈_}
 use Rattle.reg_matrix.proofs.Whole.{cellOf, cellsOn}
 use Rattle.reg_matrix.proofs.Laws.{table-size}
+use Rattle.job.specs.declared.Hint.{Hint}
 use Rattle.job.specs.Model.{VirtReg, Job, virtReg, noVirtReg, segmentsOf, unitMap, zeroWeight}
 use Rattle.job.specs.Load.{Bytes, loaded}
 use Rattle.job.proofs.Premises.{Premises, IsNumber, Plain}
 use Rattle.allocator.specs.State.{State, CandidateReg, Stage, Evict, Split, heldBy, weightOf, lastGiven}
-use Rattle.allocator.specs.Order.{hintedOrder, order}
+use Rattle.allocator.specs.Order.{candidate, grow, addHint, putBefore, byWeight, hasReg, orLast, hintedOrder, order}
 use Rattle.allocator.specs.Queue.{stageBit, encode}
 use Rattle.allocator.specs.Evict.{holders, firsts, weights, spillWeight, maxWeight, greatestSpill, costOf}
 use Rattle.allocator.specs.Calls.{load, Call, afterAll}
@@ -61,6 +63,46 @@ pub record FitsBuffers (j : Job) (s : State) : Type 0 where
   pub candidate-weights : (v : ℕ) → IsNumber j v → (c : CandidateReg) → c ∈ order j v (hintedOrder (virtReg j v) (lastGiven j s v)) → Plain (c .«preference_weight»)
   pub sums : (vs : List ℕ) → Plain (weights s vs)
   pub costs : (rs : List Interference) → Plain (costOf j s rs .«preference_weight») × Plain (costOf j s rs .«spill_weight»)
+
+-- ---- how many hinted candidates
+
+add-length : (cs : List CandidateReg) (h : Hint) → length (addHint cs h) ≤ suc (length cs)
+unfolding addHint
+add-length [] h = omega arith
+add-length (c ∷ cs) h = go (eqb (c .reg) (h .reg)) (add-length cs h)
+  where
+    go : (b : Bool) → length (addHint cs h) ≤ suc (length cs) → length (grow b h c cs (addHint cs h)) ≤ suc (suc (length cs))
+    go true ih = omega arith
+    go false ih = omega arith
+
+by-weight-length : (cs : List CandidateReg) (c : CandidateReg) → length (byWeight cs c) ≤ suc (length cs)
+unfolding byWeight
+by-weight-length [] c = omega arith
+by-weight-length (d ∷ ds) c = go (lt (d .«preference_weight») (c .«preference_weight»)) (by-weight-length ds c)
+  where
+    go : (b : Bool) → length (byWeight ds c) ≤ suc (length ds) → length (putBefore b c d ds (byWeight ds c)) ≤ suc (suc (length ds))
+    go true ih = omega arith
+    go false ih = omega arith
+
+fold-length : {A : Type 0} (f : List CandidateReg → A → List CandidateReg) → ((cs : List CandidateReg) (x : A) → length (f cs x) ≤ suc (length cs)) → (xs : List A) (cs : List CandidateReg) → length (foldl f cs xs) ≤ length cs + length xs
+unfolding foldl
+fold-length f h [] cs = omega arith
+fold-length f h (x ∷ xs) cs = omega (arith, fold-length f h xs (f cs x), h cs x)
+
+or-last-length : (cs : List CandidateReg) (o : Option ℕ) → length (orLast cs o) ≤ suc (length cs)
+or-last-length cs none = omega arith
+or-last-length cs (some r) = go (hasReg r cs)
+  where
+    go : (b : Bool) → length (cond b cs (cs ++ (candidate r zeroWeight ∷ []))) ≤ suc (length cs)
+    go true = omega arith
+    go false = omega (arith, length-append cs (candidate r zeroWeight ∷ []))
+
+-- at most one for each hint, and the register last given to the set
+pub hinted-length : (x : VirtReg) (last : Option ℕ) → length (hintedOrder x last) ≤ length (x .hints) + 1
+unfolding hintedOrder
+hinted-length x last =
+    let sums = foldl addHint [] (x .hints) in
+    omega (arith, or-last-length (foldl byWeight [] sums) last, fold-length byWeight by-weight-length sums [], fold-length addHint add-length (x .hints) [])
 
 -- ---- how many cells
 

@@ -193,6 +193,8 @@ module _ (j : Job) (t : Tested j) where
         few-fixed = t .fields .few-fixed;
         few-hints = few-hints;
         few-segments = few-segments;
+        few-own-hints = λ v h. good-virtReg v h .hints .few;
+        small-classes = λ c m. t .fields .classes .each c m .few;
         small-maps = λ r h. good-map r h .small;
         few-units = λ r h. omega (arith, units-length (unitMap j r), good-map r h .few);
         small-fixed = λ e m. t .fields .fixed .each e m .small;

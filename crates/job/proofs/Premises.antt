@@ -68,6 +68,8 @@ pub record Premises (j : Job) : Type 0 where
   pub few-fixed : length (j .fixed) ≤ 512
   pub few-hints : length (allHints j) ≤ 1024
   pub few-segments : length (allSegments j) ≤ 512
+  pub few-own-hints : (v : ℕ) → IsNumber j v → length (virtReg j v .hints) ≤ 64
+  pub small-classes : (c : List ℕ) → c ∈ j .classes → length c ≤ 64
   pub small-maps : (r : ℕ) → IsReg j r → unitMap j r < 2 ^ 64
   pub few-units : (r : ℕ) → IsReg j r → length (unitsOf (unitMap j r)) ≤ 4
   pub small-fixed : (e : Entry) → e ∈ j .fixed → SmallEntry e

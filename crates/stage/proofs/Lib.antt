@@ -4,3 +4,4 @@ pub mod QueueLaws
 pub mod EvictLaws
 pub mod Reached
 pub mod ReachedMoves
+pub mod ReachedSearch
