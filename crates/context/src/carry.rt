@@ -2,7 +2,7 @@
 ghost use mathlib.Core.Path.{_≡_};
 ghost use lib.Dec.{ltb};
 ghost use lib.ListN.{getD};
-ghost use Prim.Native.Nat.{_+_};
+ghost use Prim.Native.Nat.{_+_, _<_};
 ghost use Rattle.context.specs.Carrying.{TakenBack, EvictedAll, Taken, CarriedOut};
 use crate::Decided;
 use crate::Fate;
@@ -106,7 +106,7 @@ fn evict_all(
 
 // How a register is kept as the last one of a set.
 fn word_of(reg: u8) -> u8
-    ensures { λ r. ⌜ (ltb reg 255 ≡ true → r ≡ reg + 1) ⌝ }
+    ensures { λ r. ⌜ (reg < 255 → r ≡ reg + 1) ⌝ }
 {
     if reg < 255 { reg + 1 } else { 0 }
 }
