@@ -38,9 +38,11 @@ module _ (last sets : List ℕ) (v t word : ℕ) (a : t ≡ getD sets v 0) (b : 
   read-word = b ∙ ap (λ (n : ℕ). getD last n 0) a
 
   pub last-none : word ≡ 0 → NoReg ≡ lastIn last sets v
+  unfolding lastIn
   last-none e = subst (λ (w : ℕ). NoReg ≡ cond (eqb w 0) NoReg (LastReg (w - 1))) read-word (rw (eq-eqb word 0 e))
 
   pub last-some : (word ≡ 0 → ⊥) → LastReg (word - 1) ≡ lastIn last sets v
+  unfolding lastIn
   last-some e = subst (λ (w : ℕ). LastReg (word - 1) ≡ cond (eqb w 0) NoReg (LastReg (w - 1))) read-word (rw (ne-eqb word 0 e))
 
 -- a place past the records
@@ -52,6 +54,7 @@ flag-past rs v l h = let m : length rs ≤ v = omega (arith, l, h) in rw (List·
 module _ (W : Lent) (maps : List ℕ) (rs : List Assignment) (ss : List Float) (hs : List CandidateReg) (flag : Bool) (c : CandidateReg) where
   -- the flag is on
   pub clear-flagged : flag ≡ true → decided Takes c false (replicate 512 false) ≡ clearIn W maps rs ss hs flag c
+  unfolding clearIn
   clear-flagged e = rw e (go (lt (c .«preference_weight») (highestPreference hs)))
     where
       go : (t : Bool) → decided Takes c false (replicate 512 false) ≡ cond (t && false) (preferredOr c (preferIn W maps rs ss c hs)) (decided Takes c false (replicate 512 false))
@@ -61,12 +64,14 @@ module _ (W : Lent) (maps : List ℕ) (rs : List Assignment) (ss : List Float) (
   module _ (h : Float) (p : h ≡ highestPreference hs) where
     -- no hinted candidate is heavier
     pub clear-heaviest : lt (c .«preference_weight») h ≡ false → decided Takes c false (replicate 512 false) ≡ clearIn W maps rs ss hs flag c
+    unfolding clearIn
     clear-heaviest l =
         let m : lt (c .«preference_weight») (highestPreference hs) ≡ false = rw (← p) l in
         rw m
 
     -- the search for a preferred one decides
     pub clear-searched : flag ≡ false → lt (c .«preference_weight») h ≡ true → (b : Best) → b ≡ preferIn W maps rs ss c hs → preferredOr c b ≡ clearIn W maps rs ss hs flag c
+    unfolding clearIn
     clear-searched e l b q =
         let m : lt (c .«preference_weight») (highestPreference hs) ≡ true = rw (← p) l in
         rw (m, e) (ap (preferredOr c) q)
@@ -81,9 +86,11 @@ evicts-none c b e = rw e
 
 module _ (W : Lent) (maps : List ℕ) (rs : List Assignment) (ss : List Float) (flag : Bool) (own : Float) (cs : List CandidateReg) (q : Stage) where
   pub none-at-split : q ≡ Split → without Leaves ≡ noneClearIn W maps rs ss flag own cs q
+  unfolding noneClearIn
   none-at-split e = rw e
 
   pub none-at-evict : q ≡ Evict → (b : Best) → b ≡ evictIn W maps rs ss flag own noBest cs → evictedOr own b ≡ noneClearIn W maps rs ss flag own cs q
+  unfolding noneClearIn
   none-at-evict e b p = rw e (ap (evictedOr own) p)
 
 module _ (own : Float) (b : Best) where
@@ -112,6 +119,15 @@ hinted-few hr hw last =
     let x : VirtReg = record { class = 0; valueSet = 0; spillWeight = zeroWeight; size = 0; hints = hintsOf hr hw; segments = [] } in
     rw (hinted-is x last) (omega (arith, hinted-length x last, length-take 64 (zipHints hr hw)))
 
+-- the class of a kind that was read
+module _ (B : JobBuffers) (v kind : ℕ) (class : List ℕ) (k : kind ≡ getD (B .classes) v 0) (c : class ≡ shareOf (B .classStarts) kind (B .classRegs)) where
+  class-read : class ≡ classIn B v
+  unfolding classIn
+  class-read = c ∙ ap (λ (n : ℕ). shareOf (B .classStarts) n (B .classRegs)) k
+
+  pub class-fits : length (classIn B v) ≤ 64 → length class ≤ 64
+  class-fits h = subst (λ (l : List ℕ). length l ≤ 64) (sym class-read) h
+
 module _ (B : JobBuffers) (ends rests last : List ℕ) (rs : List Assignment) (v : ℕ) (q : Stage) where
   pub decided-by :
       (W : Lent) (hs : List CandidateReg) (class : List ℕ) (flag : Bool) (own : Float)
@@ -124,23 +140,20 @@ module _ (B : JobBuffers) (ends rests last : List ℕ) (rs : List Assignment) (v
   unfolding decidedIn
   decided-by W hs class flag own w h c f o = rw (w, h, c, f, o)
 
-  module _ (kind : ℕ) (class : List ℕ) (k : kind ≡ getD (B .classes) v 0) (c : class ≡ shareOf (B .classStarts) kind (B .classRegs)) where
-    class-read : class ≡ classIn B v
-    class-read = c ∙ ap (λ (n : ℕ). shareOf (B .classStarts) n (B .classRegs)) k
-
-    pub class-fits : length (classIn B v) ≤ 64 → length class ≤ 64
-    class-fits h = subst (λ (l : List ℕ). length l ≤ 64) (sym class-read) h
-
-    pub decided-is :
-        (fs ts vs hr : List ℕ) (hw : List Float) (la : Last) (flag : Bool) (own : Float) (d : Decided)
-        → d ≡ inOrder (lent ends rests (B .fixedUses) fs ts vs) (B .regs) rs (B .spillWeights) (hintedOf (hintsOf hr hw) (lastOf la)) class flag own q
-        → fs ≡ shareOf (B .segmentStarts) v (B .froms)
-        → ts ≡ shareOf (B .segmentStarts) v (B .tos)
-        → vs ≡ shareOf (B .segmentStarts) v (B .values)
-        → hr ≡ shareOf (B .hintStarts) v (B .hintRegs)
-        → hw ≡ shareOf (B .hintStarts) v (B .hintWeights)
-        → la ≡ lastIn last (B .valueSets) v
-        → flag ≡ flagIn (getD rs v noRecord)
-        → own ≡ getD (B .spillWeights) v zeroWeight
-        → d ≡ decidedIn B ends rests last rs v q
-    decided-is fs ts vs hr hw la flag own d e a b x y z l f o = e ∙ decided-by _ _ class flag own (rw (a, b, x)) (rw (y, z, l)) class-read f o
+  pub decided-is :
+      (kind : ℕ) (class fs ts vs hr : List ℕ) (hw : List Float) (la : Last) (flag : Bool) (own : Float) (d : Decided)
+      → d ≡ inOrder (lent ends rests (B .fixedUses) fs ts vs) (B .regs) rs (B .spillWeights) (hintedOf (hintsOf hr hw) (lastOf la)) class flag own q
+      → kind ≡ getD (B .classes) v 0
+      → class ≡ shareOf (B .classStarts) kind (B .classRegs)
+      → fs ≡ shareOf (B .segmentStarts) v (B .froms)
+      → ts ≡ shareOf (B .segmentStarts) v (B .tos)
+      → vs ≡ shareOf (B .segmentStarts) v (B .values)
+      → hr ≡ shareOf (B .hintStarts) v (B .hintRegs)
+      → hw ≡ shareOf (B .hintStarts) v (B .hintWeights)
+      → la ≡ lastIn last (B .valueSets) v
+      → flag ≡ flagIn (getD rs v noRecord)
+      → own ≡ getD (B .spillWeights) v zeroWeight
+      → d ≡ decidedIn B ends rests last rs v q
+  unfolding hintedIn
+  decided-is kind class fs ts vs hr hw la flag own d e k c a b x y z l f o =
+      e ∙ decided-by _ _ class flag own (rw (a, b, x)) (rw (y, z, l)) (class-read B v kind class k c) f o

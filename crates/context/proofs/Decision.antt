@@ -95,7 +95,7 @@ module _ (j : Job) (s : State) (g : Good j s) (B : JobBuffers) (R : JobReads j B
       record { maps-behind = R .regs .0; spills-behind = R .spillWeights .0; maps-are = R .regs .1; records-are = refl; spills-are = R .spillWeights .1 }
 
   pub class-is : classIn B v ≡ classOf j v
-  unfolding jobBuffers
+  unfolding jobBuffers classIn
   class-is =
       let k : getD (B .classes) v 0 ≡ virtReg j v .class = rw (R .classes .1) (field-read (λ (x : model.VirtReg). x .class) j v (R .classes .0) (g .premises .few-numbers) below) in
       rw (k, R .classStarts .1, R .classRegs .1) (class-share j (virtReg j v .class) (g .premises .a-class v b) (R .classStarts .0) (R .classRegs .0))
@@ -104,7 +104,7 @@ module _ (j : Job) (s : State) (g : Good j s) (B : JobBuffers) (R : JobReads j B
   class-few = rw class-is (g .premises .small-classes (classOf j v) (getD-in (j .classes) (virtReg j v .class) [] (g .premises .a-class v b)))
 
   pub last-is : (lb : List ℕ) → lastOf (lastIn (lastWords s ++ lb) (B .valueSets) v) ≡ lastGiven j s v
-  unfolding jobBuffers lastWords
+  unfolding jobBuffers lastWords lastIn
   last-is lb =
       let k : getD (B .valueSets) v 0 ≡ virtReg j v .valueSet = rw (R .valueSets .1) (field-read (λ (x : model.VirtReg). x .valueSet) j v (R .valueSets .0) (g .premises .few-numbers) below) in
       let words : List ℕ = map (λ t. lastWord (getD (s .last) t none)) (count 0 512) in
@@ -115,6 +115,7 @@ module _ (j : Job) (s : State) (g : Good j s) (B : JobBuffers) (R : JobReads j B
       rw (k, w) (last-back (lastGiven j s v))
 
   pub hinted-read : (lb : List ℕ) → hintedIn B (lastWords s ++ lb) v ≡ hintedOrder (virtReg j v) (lastGiven j s v)
+  unfolding hintedIn
   hinted-read lb =
       rw (R .hintStarts .1, R .hintRegs .1, R .hintWeights .1, hint-regs-share j v b (R .hintStarts .0) (R .hintRegs .0), hint-weights-share j v b (R .hintStarts .0) (R .hintWeights .0), all-hints (virtReg j v .hints) (g .premises .few-own-hints v b), last-is lb)
       (hinted-is (virtReg j v) (lastGiven j s v))
@@ -159,6 +160,7 @@ module _ (j : Job) (s : State) (g : Good j s) (B : JobBuffers) (R : JobReads j B
     found-is : (q : Stage) (a : Available)
         → decisionOf (foundIn (lentTo B ends rests v) (B .regs) (records s) (B .spillWeights) hinted (flag s v) (spillWeight j v) (order j v hinted) q a)
         ≡ byAvailable j s g v b (lentTo B ends rests v) lentNow (B .regs) (records s) (B .spillWeights) search-lent hinted (order j v hinted) q a
+    unfolding clearIn noneClearIn
     found-is q NoCandidates = refl
     found-is q (Clear c) = go (lt (c .«preference_weight») (highestPreference hinted) && not (flag s v))
       where

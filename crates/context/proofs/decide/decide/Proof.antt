@@ -58,8 +58,10 @@ in-order-requires c κs = search needs
 returns : tie.Need-returns
 returns c =
     λ n.
-    decided-is _ _ _ _ _ _ _ _ _ (c .before .before .before .before .before .before .before .before .before .at8 .ensures) (c .before .before .before .before .of82 .ensures) _ _ _ _ _ _ _ _ _
-    (c .in-order .ensures _ (c .before .before .before .before .before .before .before .before .before .before .before .before .compute .ensures (omega arith) (omega arith)) (hinted-few _ _ _) (class-fits _ _ _ _ _ _ _ _ _ (c .before .before .before .before .before .before .before .before .before .at8 .ensures) (c .before .before .before .before .of82 .ensures) n))
+    decided-is _ _ _ _ _ _ _ _ _ _ _ _ _ _ _ _ _ _
+    (c .in-order .ensures _ (c .before .before .before .before .before .before .before .before .before .before .before .before .compute .ensures (omega arith) (omega arith)) (hinted-few _ _ _) (class-fits _ _ _ _ (c .before .before .before .before .before .before .before .before .before .at8 .ensures) (c .before .before .before .before .of82 .ensures) n))
+    (c .before .before .before .before .before .before .before .before .before .at8 .ensures)
+    (c .before .before .before .before .of82 .ensures)
     (c .before .before .before .of32 .ensures)
     (c .before .before .of322 .ensures)
     (c .before .of16 .ensures)

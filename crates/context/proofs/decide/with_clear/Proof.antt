@@ -14,10 +14,10 @@ try-evict-for-preferred-reg-requires : tie.Need-try-evict-for-preferred-reg-requ
 try-evict-for-preferred-reg-requires c κs = search needs
 
 returns-2 : tie.Need-returns-2
-returns-2 c = λ hs k b. evicts-found _ _ (c .before .before .if3 .taken) ∙ clear-searched _ _ _ _ hs _ _ _ (c .before .before .before .before .before .before .highest-preference .ensures _ hs k) (c .before .before .before .before .before .before .before .if1 .left) (c .before .before .before .before .if2 .taken) _ (c .before .before .before .try-evict-for-preferred-reg .ensures hs k b)
+returns-2 c = λ hs k b. evicts-found _ (c .before .before .before .try-evict-for-preferred-reg .result) (c .before .before .if3 .taken) ∙ clear-searched _ _ _ _ hs _ _ _ (c .before .before .before .before .before .before .highest-preference .ensures _ hs k) (c .before .before .before .before .before .before .before .if1 .left) (c .before .before .before .before .if2 .taken) _ (c .before .before .before .try-evict-for-preferred-reg .ensures hs k b)
 
 returns-3 : tie.Need-returns-3
-returns-3 c = λ hs k b. evicts-none _ _ (c .if3 .left) ∙ clear-searched _ _ _ _ hs _ _ _ (c .before .before .before .before .highest-preference .ensures _ hs k) (c .before .before .before .before .before .if1 .left) (c .before .before .if2 .taken) _ (c .before .try-evict-for-preferred-reg .ensures hs k b)
+returns-3 c = λ hs k b. evicts-none _ (c .before .try-evict-for-preferred-reg .result) (c .if3 .left) ∙ clear-searched _ _ _ _ hs _ _ _ (c .before .before .before .before .highest-preference .ensures _ hs k) (c .before .before .before .before .before .if1 .left) (c .before .before .if2 .taken) _ (c .before .try-evict-for-preferred-reg .ensures hs k b)
 
 returns-4 : tie.Need-returns-4
 returns-4 c = λ hs k b. clear-heaviest _ _ _ _ hs _ _ _ (c .before .before .highest-preference .ensures _ hs k) (c .if2 .left)
