@@ -9,10 +9,12 @@ use mathlib.Core.Option.{Option, none, some}
 use mathlib.Core.Bool.{Bool, true, false, not, _||_}
 use lib.Dec.{T, ltb}
 use lib.Ieee.{Float}
-use lib.ListN.{length, getD, set, take, drop, length-map, length-set}
+use lib.ListN.{length, getD, set, take, drop, length-map, length-set, List·getD-map}
 use lib.Seq.{take-at, drop-at, ext-getD, set-append-left, getD-set-same, getD-set-other}
-use Rattle.reg_matrix.specs.Lists.{count, filter, foldl, keep, padded}
-use Rattle.reg_matrix.specs.Layout.{endWords, restWords}
+use Rattle.reg_matrix.specs.Lists.{count, filter, foldl, keep, padded, isSome}
+use Rattle.reg_matrix.specs.Layout.{endWords, restWords, useWords}
+use Rattle.reg_matrix.proofs.Tests.{both}
+use Rattle.lent.proofs.Laws.{any-default}
 use Rattle.reg_matrix.proofs.Places.{padded-length, padded-read, from-zero, count-length, count-append, filter-append}
 use Rattle.matrix.specs.Moves.{words}
 use Rattle.matrix.specs.Placing.{Assigned, Evicted}
@@ -32,6 +34,7 @@ use Rattle.allocator.specs.Calls.{named}
 use Rattle.allocator.specs.Reached.{Reached}
 use Rattle.allocator.proofs.Weights.{plain-zero}
 use Rattle.allocator.proofs.Holders.{same-or-not}
+use Rattle.allocator.proofs.Rebuilt.{named-known}
 use Rattle.allocator.proofs.Agrees.{Sizes, Candidate}
 use Rattle.allocator.proofs.Good.{Good, Idle, good-reached, holder-good}
 use Rattle.stage.specs.QueueWalk.{keyOf, setWord}
@@ -71,6 +74,10 @@ module _ {A : Type 0} where
 
 -- ---- the job's slices
 
+pub uses-are : (j : Job) (uses : List ℕ) → (b : Begins (jobBuffers j .fixedUses) uses) → uses ≡ useWords (j .fixed) ++ b .0
+unfolding jobBuffers
+uses-are j uses b = b .1
+
 starts-size : (n : ℕ) (xs : List VirtReg) → length (startsFrom (λ (x : VirtReg). length (x .hints)) n xs) ≡ length xs + 1
 unfolding startsFrom
 starts-size n [] = refl
@@ -87,6 +94,14 @@ module _ (j : Job) (s : State) (g : Good j s) where
   pub units-read : (maps : List ℕ) → Begins (jobBuffers j .regs) maps → (r : ℕ) → r < 64 → getD maps r 0 ≡ unitMap j r
   unfolding jobBuffers
   units-read maps b r h = ap (λ (l : List ℕ). getD l r 0) (b .1) ∙ padded-read 64 0 (j .regs) (b .0) r (g .premises .few-regs) h
+
+  pub sets-read : (sets : List ℕ) → Begins (jobBuffers j .valueSets) sets → (v : ℕ) → IsNumber j v → getD sets v 0 ≡ virtReg j v .valueSet
+  unfolding jobBuffers virtReg
+  sets-read sets b v known =
+      ap (λ (l : List ℕ). getD l v 0) (b .1)
+      ∙ padded-read 512 0 (map (λ (x : VirtReg). x .valueSet) (j .virtRegs)) (b .0) v (simp length-map few) (below v known)
+      ∙ any-default (map (λ (x : VirtReg). x .valueSet) (j .virtRegs)) v 0 (noVirtReg .valueSet) (simp length-map (omega (arith, known)))
+      ∙ List·getD-map (λ (x : VirtReg). x .valueSet) (j .virtRegs) v noVirtReg
 
   -- ---- the queue
 
@@ -136,3 +151,119 @@ records-same s t same = go (count 0 512)
     go : (vs : List ℕ) → map (recordOf s) vs ≡ map (recordOf t) vs
     go [] = refl
     go (v ∷ vs) = ap (λ (a : Assignment). a ∷ map (recordOf s) vs) (sym (same v)) ∙ ap (λ (l : List Assignment). recordOf t v ∷ l) (go vs)
+
+-- ---- a number loses its register
+
+pub taken-back :
+    (v reg : ℕ) (maps uses sizes hints starts tos ends rests queue ends′ rests′ queue′ own : List ℕ) (m : ℕ) (r : Moved) (h : Bool) (z : ℕ)
+    → own ≡ shareOf starts v tos
+    → m ≡ getD maps reg 0
+    → Evicted v m uses own (words ends rests) (words ends′ rests′) r
+    → h ≡ ltb (getD hints v 0) (getD hints (v + 1) 0)
+    → z ≡ getD sizes v 0
+    → queue′ ≡ setWord v (keyOf v h z Evict + 1) queue
+    → TakenBack v reg maps uses sizes hints starts tos ends rests queue ends′ rests′ queue′
+unfolding lose
+taken-back v reg maps uses sizes hints starts tos ends rests queue ends′ rests′ queue′ own m r h z po pm ev ph pz pq =
+    record {
+      reached =
+          λ j s t reach e mv c held is.
+          let g = good-reached j s reach in
+          let k = holder-good j s g v c held in
+          let small : c .reg < 64 = omega (arith, k .2, g .premises .few-regs) in
+          let mine : own ≡ map (λ x. x .to) (segmentsOf j v) =
+          po ∙ ap (λ (l : List ℕ). shareOf l v tos) (e .segmentStarts .1) ∙ ap (shareOf (jobBuffers j .segmentStarts ++ e .segmentStarts .0) v) (e .tos-are .1)
+          ∙ tos-share j v (k .0) (e .segmentStarts .0) (e .tos-are .0) in
+          let done =
+          evict-loses j s g (t .ends) (t .rests) (e .fixedUses .0) uses (words ends rests) (words ends′ rests′)
+          (table-stands j s g ends rests (t .ends) (t .rests) (mv .table .ends-are) (mv .table .rests-are))
+          (uses-lie j s g uses (e .fixedUses .0) (uses-are j uses (e .fixedUses)))
+          v m [] own mine c
+          (pm ∙ ap (λ (n : ℕ). getD maps n 0) (sym is) ∙ units-read j s g maps (e .regs) (c .reg) small)
+          r held ev in
+          record {
+            table = record { ends-are = done .stands .ends-are; rests-are = done .stands .rests-are };
+            queue-is =
+                pq ∙ ap (λ (b : Bool). setWord v (keyOf v b z Evict + 1) queue) ph
+                ∙ ap (λ (n : ℕ). setWord v (keyOf v (ltb (getD hints v 0) (getD hints (v + 1) 0)) n Evict + 1) queue) pz
+                ∙ queued-at j s g (lose j v (c .reg) s) v (k .0) (t .queue) queue (mv .queue-is) Evict refl hints sizes (e .hintStarts) (e .sizes-are);
+          };
+    }
+
+-- ---- a number takes a register
+
+-- the register is the last one of v's set
+last-set : (j : Job) (s : State) → Good j s → (v : ℕ) → IsNumber j v → (c : CandidateReg) (f : Bool) (lt last : List ℕ) → last ≡ lastWords s ++ lt → set last (virtReg j v .valueSet) (c .reg + 1) ≡ lastWords (give j v c f s) ++ lt
+unfolding lastWords give
+last-set j s g v known c f lt last is =
+    ap (λ (l : List ℕ). set l k (c .reg + 1)) is
+    ∙ set-append-left (map w (count 0 512)) lt k (c .reg + 1) (omega (arith, length-map (count 0 512) w, count-length 0 512, small))
+    ∙ ap (λ (l : List ℕ). l ++ lt)
+    (set-numbers w w′ 0 512 k (c .reg + 1) (ap lastWord (getD-set-same (s .last) k (some (c .reg)) none (omega (arith, small, g .agrees .sizes .last))))
+    (λ i z. ap lastWord (getD-set-other (s .last) k i (some (c .reg)) none z)))
+  where
+    k : ℕ
+    k = virtReg j v .valueSet
+
+    small : k < 512
+    small = g .premises .small-sets v known
+
+    w : ℕ → ℕ
+    w t = lastWord (getD (s .last) t none)
+
+    w′ : ℕ → ℕ
+    w′ t = lastWord (getD (set (s .last) k (some (c .reg))) t none)
+
+pub taken :
+    (v reg : ℕ) (maps uses sets starts froms tos ends rests queue last ends′ rests′ queue′ last′ from to : List ℕ) (m : ℕ) (r : Moved) (k w : ℕ)
+    → from ≡ shareOf starts v froms
+    → to ≡ shareOf starts v tos
+    → m ≡ getD maps reg 0
+    → Assigned v m uses from to (words ends rests) (words ends′ rests′) r
+    → queue′ ≡ setWord v 0 queue
+    → k ≡ getD sets v 0
+    → (reg < 255 → w ≡ reg + 1)
+    → last′ ≡ set last k w
+    → Taken v reg maps uses sets starts froms tos ends rests queue last ends′ rests′ queue′ last′
+unfolding give jobBuffers virtReg
+taken v reg maps uses sets starts froms tos ends rests queue last ends′ rests′ queue′ last′ from to m r k w pf pt pm as pq pk pw pl =
+    record {
+      reached =
+          λ j s t reach e st known free names clear c f is.
+          let g = good-reached j s reach in
+          let b = named-known j (g .premises) v reg known names in
+          let small : reg < 64 = omega (arith, b, g .premises .few-regs) in
+          let u = both (not (isSome (heldBy s v))) (not (isLeftOver s v)) free in
+          let mine : from ≡ map (λ x. x .from) (segmentsOf j v) =
+          pf ∙ ap (λ (l : List ℕ). shareOf l v froms) (e .segmentStarts .1) ∙ ap (shareOf (jobBuffers j .segmentStarts ++ e .segmentStarts .0) v) (e .froms-are .1)
+          ∙ froms-share j v known (e .segmentStarts .0) (e .froms-are .0) in
+          let mine′ : to ≡ map (λ x. x .to) (segmentsOf j v) =
+          pt ∙ ap (λ (l : List ℕ). shareOf l v tos) (e .segmentStarts .1) ∙ ap (shareOf (jobBuffers j .segmentStarts ++ e .segmentStarts .0) v) (e .tos-are .1)
+          ∙ tos-share j v known (e .segmentStarts .0) (e .tos-are .0) in
+          let idle : Idle j s v = record { known = known; holds-nothing = not-some (heldBy s v) (u .0); stays = u .1 } in
+          let done =
+          assign-gives j s g (t .ends) (t .rests) (e .fixedUses .0) uses (words ends rests) (words ends′ rests′)
+          (table-stands j s g ends rests (t .ends) (t .rests) (st .moves .table .ends-are) (st .moves .table .rests-are))
+          (uses-lie j s g uses (e .fixedUses .0) (uses-are j uses (e .fixedUses)))
+          v m from to mine′ (candidate reg zeroWeight)
+          (pm ∙ units-read j s g maps (e .regs) reg small)
+          r mine idle (record { names = names; plain = plain-zero }) clear as false in
+          record {
+            moves =
+                record {
+                  table =
+                      record {
+                        ends-are = done .stands .ends-are ∙ sym (ap (λ (n : ℕ). endWords (give j v (candidate n zeroWeight) false s .table) ++ t .ends) is);
+                        rests-are = done .stands .rests-are ∙ sym (ap (λ (n : ℕ). restWords (give j v (candidate n zeroWeight) false s .table) ++ t .rests) is);
+                      };
+                  queue-is = pq ∙ unqueued j s g (give j v c f s) v known (t .queue) queue (st .moves .queue-is) refl;
+                };
+            last-is =
+                pl ∙ ap (λ (n : ℕ). set last n w) (pk ∙ sets-read j s g sets (e .valueSets) v known) ∙ ap (set last (virtReg j v .valueSet)) (pw (omega arith) ∙ ap (λ (n : ℕ). n + 1) (sym is))
+                ∙ last-set j s g v known c f (t .last) last (st .last-is);
+          };
+    }
+  where
+    not-some : (o : Option CandidateReg) → T (not (isSome o)) → o ≡ none
+    not-some none t = refl
+    not-some (some c) t = absurd t

@@ -1,3 +1,4 @@
 pub mod DecideLaws
 pub mod Shares
 pub mod CarryLaws
+pub mod Decision

@@ -44,13 +44,13 @@ module _ {A B C : Type 0} (f : A → List B) (g : B → C) (d : A) where
       let k : map g (f x ++ concatMap f xs) ++ u ≡ map g (f x) ++ (map g (concatMap f xs) ++ u) = ap (λ (l : List C). l ++ u) (map-app g (f x) (concatMap f xs)) ∙ append-assoc (map g (f x)) (map g (concatMap f xs)) u in
       ap (λ (n : ℕ). part at n (ps ++ (map g (f x ++ concatMap f xs) ++ u))) (starts-first (λ (x : A). length (f x)) (at + length (f x)) xs r)
       ∙ ap (λ (l : List C). part at (at + length (f x)) (ps ++ l)) k
-      ∙ middle ps (map g (f x)) (map g (concatMap f xs) ++ u) at (at + length (f x)) p (omega (arith, length-map g (f x)))
+      ∙ middle ps (map g (f x)) (map g (concatMap f xs) ++ u) at (at + length (f x)) p (omega (arith, length-map (f x) g))
   own-part (x ∷ xs) (suc i) at ps u r p h =
       let k : ps ++ (map g (f x ++ concatMap f xs) ++ u) ≡ (ps ++ map g (f x)) ++ (map g (concatMap f xs) ++ u) =
       ap (λ (l : List C). ps ++ l) (ap (λ (l : List C). l ++ u) (map-app g (f x) (concatMap f xs)) ∙ append-assoc (map g (f x)) (map g (concatMap f xs)) u)
       ∙ sym (append-assoc ps (map g (f x)) (map g (concatMap f xs) ++ u)) in
       ap (part (getD (starts (at + length (f x)) xs ++ r) i 0) (getD (starts (at + length (f x)) xs ++ r) (suc i) 0)) k
-      ∙ own-part xs i (at + length (f x)) (ps ++ map g (f x)) u r (omega (arith, p, length-append ps (map g (f x)), length-map g (f x))) (omega arith)
+      ∙ own-part xs i (at + length (f x)) (ps ++ map g (f x)) u r (omega (arith, p, length-append ps (map g (f x)), length-map (f x) g)) (omega arith)
 
   -- in slices as long as their limits or longer
   pub share-is : (n m : ℕ) (e : C) (xs : List A) (i : ℕ) (t : List ℕ) (u : List C) → i < length xs

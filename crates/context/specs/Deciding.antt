@@ -67,21 +67,21 @@ flagIn (Unassigned f) = f
 flagIn Dead = false
 
 -- the register last given to the set of v, by its word
-abbrev pub lastIn : List ℕ → List ℕ → ℕ → Last
+unfoldable pub lastIn : List ℕ → List ℕ → ℕ → Last
 lastIn last sets v = cond (eqb (getD last (getD sets v 0) 0) 0) NoReg (LastReg (getD last (getD sets v 0) 0 - 1))
 
 abbrev pub preferredOr : CandidateReg → Best → Decided
 preferredOr c b = cond (b .found) (decided Evicts (b .to) true (b .holders)) (decided Takes c false (replicate 512 false))
 
 -- the clear candidate c, unless another is preferred
-abbrev pub clearIn : Lent → List ℕ → List Assignment → List Float → List CandidateReg → Bool → CandidateReg → Decided
+unfoldable pub clearIn : Lent → List ℕ → List Assignment → List Float → List CandidateReg → Bool → CandidateReg → Decided
 clearIn W maps rs ss hs flag c =
     cond (lt (c .«preference_weight») (highestPreference hs) && not flag) (preferredOr c (preferIn W maps rs ss c hs)) (decided Takes c false (replicate 512 false))
 
 abbrev pub evictedOr : Float → Best → Decided
 evictedOr own b = cond (b .found) (decided Evicts (b .to) (not (lt (b .cost .«spill_weight») own)) (b .holders)) (cond (eq own infinite) (without Fails) (without Splits))
 
-abbrev pub noneClearIn : Lent → List ℕ → List Assignment → List Float → Bool → Float → List CandidateReg → Stage → Decided
+unfoldable pub noneClearIn : Lent → List ℕ → List Assignment → List Float → Bool → Float → List CandidateReg → Stage → Decided
 noneClearIn W maps rs ss flag own cs Evict = evictedOr own (evictIn W maps rs ss flag own noBest cs)
 noneClearIn W maps rs ss flag own cs Split = without Leaves
 
@@ -101,10 +101,10 @@ abbrev pub lentTo : JobBuffers → List ℕ → List ℕ → ℕ → Lent
 lentTo B ends rests v =
     lent ends rests (B .fixedUses) (shareOf (B .segmentStarts) v (B .froms)) (shareOf (B .segmentStarts) v (B .tos)) (shareOf (B .segmentStarts) v (B .values))
 
-abbrev pub classIn : JobBuffers → ℕ → List ℕ
+unfoldable pub classIn : JobBuffers → ℕ → List ℕ
 classIn B v = shareOf (B .classStarts) (getD (B .classes) v 0) (B .classRegs)
 
-abbrev pub hintedIn : JobBuffers → List ℕ → ℕ → List CandidateReg
+unfoldable pub hintedIn : JobBuffers → List ℕ → ℕ → List CandidateReg
 hintedIn B last v =
     hintedOf (hintsOf (shareOf (B .hintStarts) v (B .hintRegs)) (shareOf (B .hintStarts) v (B .hintWeights))) (lastOf (lastIn last (B .valueSets) v))
 
