@@ -226,7 +226,7 @@ pub taken :
     → last′ ≡ set last k w
     → Taken v reg maps uses sets starts froms tos ends rests queue last ends′ rests′ queue′ last′
 unfolding give jobBuffers virtReg
-taken v reg maps uses sets starts froms tos ends rests queue last ends′ rests′ queue′ last′ from to m r k w pf pt pm as pq pk pw pl =
+taken v reg maps uses sets starts froms tos ends rests queue last ends′ rests′ queue′ last′ from to m r k w pf pt pm pa pq pk pw pl =
     record {
       reached =
           λ j s t reach e st known free names clear c f is.
@@ -247,7 +247,7 @@ taken v reg maps uses sets starts froms tos ends rests queue last ends′ rests�
           (uses-lie j s g uses (e .fixedUses .0) (uses-are j uses (e .fixedUses)))
           v m from to mine′ (candidate reg zeroWeight)
           (pm ∙ units-read j s g maps (e .regs) reg small)
-          r mine idle (record { names = names; plain = plain-zero }) clear as false in
+          r mine idle (record { names = names; plain = plain-zero }) clear pa false in
           record {
             moves =
                 record {
