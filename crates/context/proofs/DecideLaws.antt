@@ -3,14 +3,13 @@ use Prim.Native.Nat.{ℕ, _-_, _≤_}
 use native.Mathlib.Omega.{arith}
 use mathlib.Core.Path.{_≡_, refl, sym, ap, _∙_, subst}
 use mathlib.Core.List.{List, []}
-use mathlib.Core.Option.{Option, none}
+use mathlib.Core.Option.{Option}
 use mathlib.Core.Bool.{Bool, true, false, not, _&&_, cond}
 use lib.Dec.{eqb}
 use lib.Ieee.{Float, lt, eq}
 use lib.ListN.{length, getD, replicate, length-take, List·getD-eq-default}
 use borrow.Author.Tests.{eq-eqb, ne-eqb}
 use Rattle.matrix.specs.Walk.{Lent, lent}
-use Rattle.job.specs.declared.Hint.{Hint}
 use Rattle.job.specs.Model.{VirtReg, zeroWeight}
 use Rattle.job.specs.Layout.{JobBuffers}
 use Rattle.allocator.specs.declared.CandidateReg.{CandidateReg}
@@ -27,7 +26,6 @@ use Rattle.stage.specs.AllocateWalk.{availableIn, evictIn, preferIn, noBest}
 use Rattle.stage.specs.EvictWalk.{noRecord}
 use Rattle.stage.specs.declared.allocate.Best.{Best}
 use Rattle.stage.specs.declared.allocate.Available.{Available}
-use Rattle.stage.specs.declared.allocate.Available.the-variants.{Clear, NoneClear, NoCandidates}
 use Rattle.stage.proofs.OrderLaws.{hinted-is}
 use Rattle.context.specs.Deciding.{shareOf, Decided, Leaves, Takes, Evicts, Splits, Fails, decided, without, flagIn, lastIn, preferredOr, clearIn, evictedOr, noneClearIn, foundIn, inOrder, lentTo, classIn, hintedIn, decidedIn}
 

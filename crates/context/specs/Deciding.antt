@@ -1,7 +1,6 @@
 -- A dequeue's decision in the shape of the code of src/decide.rt, over what is lent. Laws in proofs/ tie it to Dequeue.antt. Assumes nothing.
-use Prim.Native.Nat.{ℕ, suc, _+_, _-_, _≤_}
-use mathlib.Core.List.{List, [], _∷_}
-use mathlib.Core.Option.{Option, none, some}
+use Prim.Native.Nat.{ℕ, _+_, _-_}
+use mathlib.Core.List.{List, []}
 use mathlib.Core.Bool.{Bool, true, false, not, _&&_, cond}
 use lib.Dec.{eqb}
 use lib.Ieee.{Float, lt, eq}
