@@ -65,7 +65,7 @@ plain-infinite (inf n) p = rw (infinite-is, p)
 plain-infinite (fin n m e) p = rw infinite-is
 
 -- a field of a virtual register, by number
-field-read : {C : Type 0} (f : model.VirtReg → C) (j : Job) (v : ℕ) (t : List C) → length (j .virtRegs) ≤ 512 → v < 512 → getD (padded 512 (f noVirtReg) (map f (j .virtRegs)) ++ t) v (f noVirtReg) ≡ f (virtReg j v)
+pub field-read : {C : Type 0} (f : model.VirtReg → C) (j : Job) (v : ℕ) (t : List C) → length (j .virtRegs) ≤ 512 → v < 512 → getD (padded 512 (f noVirtReg) (map f (j .virtRegs)) ++ t) v (f noVirtReg) ≡ f (virtReg j v)
 unfolding virtReg
 field-read f j v t l h = padded-read 512 (f noVirtReg) (map f (j .virtRegs)) t v (simp length-map l) h ∙ List·getD-map f (j .virtRegs) v noVirtReg
 
