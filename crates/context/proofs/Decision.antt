@@ -160,7 +160,7 @@ module _ (j : Job) (s : State) (g : Good j s) (B : JobBuffers) (R : JobReads j B
     found-is : (q : Stage) (a : Available)
         → decisionOf (foundIn (lentTo B ends rests v) (B .regs) (records s) (B .spillWeights) hinted (flag s v) (spillWeight j v) (order j v hinted) q a)
         ≡ byAvailable j s g v b (lentTo B ends rests v) lentNow (B .regs) (records s) (B .spillWeights) search-lent hinted (order j v hinted) q a
-    unfolding clearIn noneClearIn
+    unfolding foundIn clearIn noneClearIn
     found-is q NoCandidates = refl
     found-is q (Clear c) = go (lt (c .«preference_weight») (highestPreference hinted) && not (flag s v))
       where

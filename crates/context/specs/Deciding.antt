@@ -84,7 +84,8 @@ unfoldable pub noneClearIn : Lent → List ℕ → List Assignment → List Floa
 noneClearIn W maps rs ss flag own cs Evict = evictedOr own (evictIn W maps rs ss flag own noBest cs)
 noneClearIn W maps rs ss flag own cs Split = without Leaves
 
-abbrev pub foundIn : Lent → List ℕ → List Assignment → List Float → List CandidateReg → Bool → Float → List CandidateReg → Stage → Available → Decided
+-- by what was found of the candidates
+unfoldable pub foundIn : Lent → List ℕ → List Assignment → List Float → List CandidateReg → Bool → Float → List CandidateReg → Stage → Available → Decided
 foundIn W maps rs ss hs flag own cs q NoCandidates = without Leaves
 foundIn W maps rs ss hs flag own cs q (Clear c) = clearIn W maps rs ss hs flag c
 foundIn W maps rs ss hs flag own cs q NoneClear = noneClearIn W maps rs ss flag own cs q
