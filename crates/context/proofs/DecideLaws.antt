@@ -3,14 +3,13 @@ use Prim.Native.Nat.{ℕ, _-_, _≤_}
 use native.Mathlib.Omega.{arith}
 use mathlib.Core.Path.{_≡_, refl, sym, ap, _∙_, subst}
 use mathlib.Core.List.{List, []}
-use mathlib.Core.Option.{Option, none}
+use mathlib.Core.Option.{Option}
 use mathlib.Core.Bool.{Bool, true, false, not, _&&_, cond}
 use lib.Dec.{eqb}
 use lib.Ieee.{Float, lt, eq}
 use lib.ListN.{length, getD, replicate, length-take, List·getD-eq-default}
 use borrow.Author.Tests.{eq-eqb, ne-eqb}
 use Rattle.matrix.specs.Walk.{Lent, lent}
-use Rattle.job.specs.declared.Hint.{Hint}
 use Rattle.job.specs.Model.{VirtReg, zeroWeight}
 use Rattle.job.specs.Layout.{JobBuffers}
 use Rattle.allocator.specs.declared.CandidateReg.{CandidateReg}
@@ -104,12 +103,26 @@ module _ (own : Float) (b : Best) where
     pub evicted-splits : i ≡ false → without Splits ≡ evictedOr own b
     evicted-splits t = let u : eq own infinite ≡ false = rw (← p) t in rw (e, u)
 
--- ---- by what the walk over the candidates found
+-- ---- by what was found of the candidates
 
-module _ (W : Lent) (maps : List ℕ) (rs : List Assignment) (ss : List Float) (hs : List CandidateReg) (class : List ℕ) (flag : Bool) (own : Float) (q : Stage) where
-  pub order-found : (a x : Available) → a ≡ availableIn W maps false (offersFrom hs class 0) → a ≡ x → foundIn W maps rs ss hs flag own (offersFrom hs class 0) q x ≡ inOrder W maps rs ss hs class flag own q
-  unfolding inOrder
-  order-found a x p e = ap (foundIn W maps rs ss hs flag own (offersFrom hs class 0) q) (sym e ∙ p)
+module _ (W : Lent) (maps : List ℕ) (rs : List Assignment) (ss : List Float) (hs : List CandidateReg) (flag : Bool) (own : Float) (cs : List CandidateReg) (q : Stage) (a : Available) where
+  pub found-no-candidates : a ≡ NoCandidates → without Leaves ≡ foundIn W maps rs ss hs flag own cs q a
+  unfolding foundIn
+  found-no-candidates e = rw e
+
+  pub found-clear : (c : CandidateReg) → a ≡ Clear c → clearIn W maps rs ss hs flag c ≡ foundIn W maps rs ss hs flag own cs q a
+  unfolding foundIn
+  found-clear c e = rw e
+
+  pub found-none-clear : a ≡ NoneClear → noneClearIn W maps rs ss flag own cs q ≡ foundIn W maps rs ss hs flag own cs q a
+  unfolding foundIn
+  found-none-clear e = rw e
+
+pub order-found :
+    (W : Lent) (maps : List ℕ) (rs : List Assignment) (ss : List Float) (hs : List CandidateReg) (class : List ℕ) (flag : Bool) (own : Float) (q : Stage)
+    → (a : Available) → a ≡ availableIn W maps false (offersFrom hs class 0) → foundIn W maps rs ss hs flag own (offersFrom hs class 0) q a ≡ inOrder W maps rs ss hs class flag own q
+unfolding inOrder
+order-found W maps rs ss hs class flag own q a p = ap (foundIn W maps rs ss hs flag own (offersFrom hs class 0) q) p
 
 -- ---- over the job's buffers
 

@@ -1,7 +1,7 @@
 -- On a state that calls reach, over what is lent, the code's decision of a dequeue is the rules' decision. Assumes nothing.
-use Prim.Native.Nat.{ℕ, zero, suc, _+_, _-_, _≤_, _<_}
+use Prim.Native.Nat.{ℕ, _+_, _-_, _≤_, _<_}
 use native.Mathlib.Omega.{arith}
-use mathlib.Core.Path.{_≡_, refl, sym, ap, _∙_, subst}
+use mathlib.Core.Path.{_≡_, refl, sym, ap, _∙_}
 use mathlib.Core.List.{List, [], _++_, map}
 use mathlib.Core.Option.{Option, none, some}
 use mathlib.Core.Bool.{Bool, true, false, not, _&&_, cond}
@@ -12,7 +12,7 @@ use borrow.Author.Tests.{ne-eqb}
 use Rattle.reg_matrix.specs.Lists.{first, count, padded}
 use Rattle.reg_matrix.proofs.Places.{padded-read, from-zero, count-length}
 use Rattle.job.specs.Model as model
-use Rattle.job.specs.Model.{Job, virtReg, noVirtReg, classOf, zeroWeight}
+use Rattle.job.specs.Model.{Job, virtReg, noVirtReg, classOf}
 use Rattle.job.specs.Layout.{JobBuffers, jobBuffers}
 use Rattle.job.proofs.Premises.{IsNumber, Plain}
 use Rattle.job.proofs.Lists.{getD-in}
@@ -28,17 +28,17 @@ use Rattle.allocator.specs.Layout.{lastWord, lastWords}
 use Rattle.allocator.specs.Reached.{Reached}
 use Rattle.allocator.proofs.Agrees.{queuedAt}
 use Rattle.allocator.proofs.Good.{Good, Idle, good-reached, queued-idle}
-use Rattle.stage.specs.OrderWalk.{hintsOf, hintedOf, lastOf, offersFrom}
+use Rattle.stage.specs.OrderWalk.{lastOf}
 use Rattle.stage.specs.declared.order.Last.the-variants.{Reg as LastReg, NoReg}
-use Rattle.stage.specs.AllocateWalk.{availableIn, evictIn, preferIn, noBest}
+use Rattle.stage.specs.AllocateWalk.{availableIn, preferIn}
 use Rattle.stage.specs.EvictWalk.{noRecord}
 use Rattle.stage.specs.declared.allocate.Best.{Best}
 use Rattle.stage.specs.declared.allocate.Available.{Available}
 use Rattle.stage.specs.declared.allocate.Available.the-variants.{Clear, NoneClear, NoCandidates}
 use Rattle.stage.proofs.OrderLaws.{all-hints, hinted-is, offers-all}
 use Rattle.stage.proofs.Reached.{LaidOut}
-use Rattle.stage.proofs.ReachedSearch.{ownHinted, hinted-small, order-small, SearchLent, spill-read, record-read, byAvailable, decide-found, Finds, BestIs, eviction-found, PreferredIs, preferred-found}
-use Rattle.context.specs.Deciding.{shareOf, members, decisionOf, decided, without, Takes, Splits, Fails, flagIn, lastIn, preferredOr, clearIn, evictedOr, noneClearIn, foundIn, inOrder, lentTo, classIn, hintedIn, decidedIn}
+use Rattle.stage.proofs.ReachedSearch.{ownHinted, hinted-small, order-small, SearchLent, spill-read, record-read, byAvailable, decide-found, BestIs, eviction-found, PreferredIs, preferred-found}
+use Rattle.context.specs.Deciding.{members, decisionOf, decided, without, Takes, Splits, Fails, flagIn, lastIn, preferredOr, clearIn, evictedOr, noneClearIn, foundIn, inOrder, lentTo, classIn, hintedIn, decidedIn}
 use Rattle.context.specs.Standing.{JobReads, TableStands}
 use Rattle.context.proofs.DecideLaws.{decided-by}
 use Rattle.context.proofs.Shares.{froms-share, tos-share, values-share, hint-regs-share, hint-weights-share, class-share}
@@ -65,7 +65,7 @@ plain-infinite (inf n) p = rw (infinite-is, p)
 plain-infinite (fin n m e) p = rw infinite-is
 
 -- a field of a virtual register, by number
-field-read : {C : Type 0} (f : model.VirtReg → C) (j : Job) (v : ℕ) (t : List C) → length (j .virtRegs) ≤ 512 → v < 512 → getD (padded 512 (f noVirtReg) (map f (j .virtRegs)) ++ t) v (f noVirtReg) ≡ f (virtReg j v)
+pub field-read : {C : Type 0} (f : model.VirtReg → C) (j : Job) (v : ℕ) (t : List C) → length (j .virtRegs) ≤ 512 → v < 512 → getD (padded 512 (f noVirtReg) (map f (j .virtRegs)) ++ t) v (f noVirtReg) ≡ f (virtReg j v)
 unfolding virtReg
 field-read f j v t l h = padded-read 512 (f noVirtReg) (map f (j .virtRegs)) t v (simp length-map l) h ∙ List·getD-map f (j .virtRegs) v noVirtReg
 
@@ -160,7 +160,7 @@ module _ (j : Job) (s : State) (g : Good j s) (B : JobBuffers) (R : JobReads j B
     found-is : (q : Stage) (a : Available)
         → decisionOf (foundIn (lentTo B ends rests v) (B .regs) (records s) (B .spillWeights) hinted (flag s v) (spillWeight j v) (order j v hinted) q a)
         ≡ byAvailable j s g v b (lentTo B ends rests v) lentNow (B .regs) (records s) (B .spillWeights) search-lent hinted (order j v hinted) q a
-    unfolding clearIn noneClearIn
+    unfolding foundIn clearIn noneClearIn
     found-is q NoCandidates = refl
     found-is q (Clear c) = go (lt (c .«preference_weight») (highestPreference hinted) && not (flag s v))
       where

@@ -1,7 +1,6 @@
 -- A dequeue's decision in the shape of the code of src/decide.rt, over what is lent. Laws in proofs/ tie it to Dequeue.antt. Assumes nothing.
-use Prim.Native.Nat.{ℕ, suc, _+_, _-_, _≤_}
-use mathlib.Core.List.{List, [], _∷_}
-use mathlib.Core.Option.{Option, none, some}
+use Prim.Native.Nat.{ℕ, _+_, _-_}
+use mathlib.Core.List.{List, []}
 use mathlib.Core.Bool.{Bool, true, false, not, _&&_, cond}
 use lib.Dec.{eqb}
 use lib.Ieee.{Float, lt, eq}
@@ -85,7 +84,8 @@ unfoldable pub noneClearIn : Lent → List ℕ → List Assignment → List Floa
 noneClearIn W maps rs ss flag own cs Evict = evictedOr own (evictIn W maps rs ss flag own noBest cs)
 noneClearIn W maps rs ss flag own cs Split = without Leaves
 
-abbrev pub foundIn : Lent → List ℕ → List Assignment → List Float → List CandidateReg → Bool → Float → List CandidateReg → Stage → Available → Decided
+-- by what was found of the candidates
+unfoldable pub foundIn : Lent → List ℕ → List Assignment → List Float → List CandidateReg → Bool → Float → List CandidateReg → Stage → Available → Decided
 foundIn W maps rs ss hs flag own cs q NoCandidates = without Leaves
 foundIn W maps rs ss hs flag own cs q (Clear c) = clearIn W maps rs ss hs flag c
 foundIn W maps rs ss hs flag own cs q NoneClear = noneClearIn W maps rs ss flag own cs q

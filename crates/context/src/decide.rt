@@ -9,7 +9,7 @@ ghost use Rattle.allocator.specs.declared.CandidateReg.{CandidateReg};
 ghost use Rattle.allocator.specs.Evict.{infinite};
 ghost use Rattle.stage.specs.OrderWalk.{Computed, offersFrom};
 ghost use Rattle.stage.specs.EvictWalk.{noRecord};
-ghost use Rattle.context.specs.Deciding.{without, flagIn, lastIn, clearIn, noneClearIn, inOrder, classIn, decidedIn, reading};
+ghost use Rattle.context.specs.Deciding.{without, flagIn, lastIn, clearIn, noneClearIn, foundIn, inOrder, classIn, decidedIn, reading};
 use crate::Decided;
 use crate::Fate;
 use crate::parts::of_float;
@@ -198,8 +198,9 @@ fn with_none_clear(
     without_reg(Fate::Splits)
 }
 
-// The decision by the candidates of an order.
-fn in_order(
+// The decision by what was found of the candidates of an order.
+fn by_found(
+    found: Available,
     stage: Stage,
     flag: bool,
     own: f32,
@@ -217,21 +218,9 @@ fn in_order(
     tos: &[u32],
     values: &[u16],
 ) -> Decided
-    ensures { λ r. ⌜ ((hs : List CandidateReg) → Computed order (now (regs .entry)) (now (weights .entry)) hs → length hs ≤ 65 → length (now (class .entry)) ≤ 64 → r ≡ inOrder (lent (now (ends .entry)) (now (rests .entry)) (now (uses .entry)) (now (froms .entry)) (now (tos .entry)) (now (values .entry))) (now (maps .entry)) records (now (spills .entry)) hs (now (class .entry)) flag own stage) ⌝ }
+    ensures { λ r. ⌜ ((hs : List CandidateReg) → Computed order (now (regs .entry)) (now (weights .entry)) hs → length hs ≤ 65 → length (now (class .entry)) ≤ 64 → r ≡ foundIn (lent (now (ends .entry)) (now (rests .entry)) (now (uses .entry)) (now (froms .entry)) (now (tos .entry)) (now (values .entry))) (now (maps .entry)) records (now (spills .entry)) hs flag own (offersFrom hs (now (class .entry)) 0) stage found) ⌝ }
 {
-    match find_available_reg(
-        order,
-        regs,
-        weights,
-        class,
-        maps,
-        ends,
-        rests,
-        uses,
-        froms,
-        tos,
-        values,
-    ) {
+    match found {
         Available::NoCandidates => without_reg(Fate::Leaves),
         Available::Clear(c) => with_clear(
             c,
@@ -268,6 +257,61 @@ fn in_order(
             values,
         ),
     }
+}
+
+// The decision by the candidates of an order.
+fn in_order(
+    stage: Stage,
+    flag: bool,
+    own: f32,
+    order: AllocationOrder,
+    regs: &[u8],
+    weights: &[f32],
+    class: &[u8],
+    maps: &[u64],
+    records: [Assignment; 512],
+    spills: &[f32],
+    ends: &[u64],
+    rests: &[u64],
+    uses: &[u64],
+    froms: &[u32],
+    tos: &[u32],
+    values: &[u16],
+) -> Decided
+    ensures { λ r. ⌜ ((hs : List CandidateReg) → Computed order (now (regs .entry)) (now (weights .entry)) hs → length hs ≤ 65 → length (now (class .entry)) ≤ 64 → r ≡ inOrder (lent (now (ends .entry)) (now (rests .entry)) (now (uses .entry)) (now (froms .entry)) (now (tos .entry)) (now (values .entry))) (now (maps .entry)) records (now (spills .entry)) hs (now (class .entry)) flag own stage) ⌝ }
+{
+    let found = find_available_reg(
+        order,
+        regs,
+        weights,
+        class,
+        maps,
+        ends,
+        rests,
+        uses,
+        froms,
+        tos,
+        values,
+    );
+    by_found(
+        found,
+        stage,
+        flag,
+        own,
+        order,
+        regs,
+        weights,
+        class,
+        maps,
+        records,
+        spills,
+        ends,
+        rests,
+        uses,
+        froms,
+        tos,
+        values,
+    )
 }
 
 // The flag of v. A number above 511 has none.
