@@ -3,53 +3,32 @@
 use Prim.Native.Nat.{ℕ}
 use native.Mathlib.Omega.{arith}
 use mathlib.Core.Path.{_≡_, refl, sym, ap, _∙_, subst}
-use mathlib.Core.Logic.{_↔_}
+use mathlib.Core.Logic.{_⊎_, inl, inr}
 use mathlib.Core.List.{List}
 use mathlib.Core.Option.{Option, none, some}
 use mathlib.Core.Bool.{Bool, true, false, not, _&&_}
 use lib.Dec.{T}
-use lib.Ieee.{Float}
 use Rattle.reg_matrix.specs.Lists.{isSome}
-use Rattle.reg_matrix.specs.Refusals.{shortBuffer}
-use Rattle.job.specs.Model.{Job}
-use Rattle.job.specs.Load.{Bytes, loaded}
-use Rattle.job.proofs.Premises.{Premises, IsNumber}
-use Rattle.allocator.specs.State.{State, CandidateReg, Stage, Assignment, Assigned, heldBy, isLeftOver, flag, isUnassigned, assignment, recordOf}
-use Rattle.allocator.specs.Layout.{stageLimits}
-use Rattle.allocator.specs.Calls.{load, Call, evicting, refusalOf, evicted, regOf, orRefused, answerOf, afterAll}
+use Rattle.reg_matrix.specs.Table.{unitsOf}
+use Rattle.reg_matrix.specs.Assign.{fixedIndex}
+use Rattle.reg_matrix.specs.declared.ValueSegment.{ValueSegment}
+use Rattle.reg_matrix.specs.declared.Entry.{Entry}
+use Rattle.reg_matrix.specs.declared.FixedIndex.{FixedIndex}
+use Rattle.reg_matrix.specs.declared.Reservation.the-variants.{Held}
+use Rattle.reg_matrix.proofs.Members.{_∈_}
+use Rattle.reg_matrix.proofs.Cells.{entryFor, Laid, reserved, cell}
+use Rattle.reg_matrix.proofs.Whole.{cellOf}
+use Rattle.job.specs.Model.{Job, segmentsOf, unitMap}
+use Rattle.job.proofs.Premises.{Premises}
+use Rattle.allocator.specs.State.{State, CandidateReg, Assigned, heldBy, isLeftOver, flag, assignment, recordOf}
+use Rattle.allocator.specs.Calls.{Call, evicted, regOf, orRefused, answerOf, afterAll}
 use Rattle.allocator.specs.Holding.{Holding, holds}
-use Rattle.allocator.proofs.Holders.{none-some, TableOf}
-use Rattle.allocator.proofs.Agrees.{regHeld, queuedAt, Agrees, on-record}
+use Rattle.allocator.specs.Corollaries.{HasUnit, AssignedTo, HeldEntry, Agreement, AgreementAfter}
+use Rattle.allocator.proofs.Holders.{none-some, cellsOf, cell-in, cell-out}
+use Rattle.allocator.proofs.Agrees.{regHeld, Agrees, on-record, holder-known}
 use Rattle.allocator.proofs.Accepted.{evicting-accepted}
 use Rattle.allocator.proofs.Runs.{after-agrees}
 use Rattle.allocator.proofs.Loading.{stage-premises}
-
--- the record stands as assigned, with the register r
-pub record AssignedTo (a : Assignment) (r : ℕ) : Type 0 where
-  pub flag : Bool
-  pub weight : Float
-  pub stands : a ≡ Assigned flag r weight
-
--- full-size buffers, a number of a virtual register, and it holds something
-pub record MayBeEvicted (j : Job) (h : Holding) (lent : List ℕ) (v : ℕ) : Type 0 where
-  pub lends : T (not (shortBuffer stageLimits lent))
-  pub known : IsNumber j v
-  pub holds : T (isSome (h v))
-
--- a state beside who holds what
-pub record Agreement (j : Job) (s : State) (h : Holding) : Type 0 where
-  -- the table has the cells of the holders, and no others
-  pub table : TableOf j h (s .table)
-  -- a number has the register on record that it holds, and its record stands as assigned exactly then
-  pub registers : (v : ℕ) → regHeld (heldBy s v) ≡ h v
-  pub records : (v r : ℕ) → AssignedTo (recordOf s v) r ↔ (h v ≡ some r)
-  -- who is queued holds nothing and is not left over
-  pub queue : (v : ℕ) (q : Stage) → queuedAt s v ≡ some q → IsNumber j v × (h v ≡ none) × T (not (isLeftOver s v))
-  -- a direct eviction is accepted exactly when its number is known and holds something, and then answers what it held
-  pub evictions : (lent : List ℕ) (v : ℕ) → (refusalOf j s (evicting lent v) ≡ none) ↔ MayBeEvicted j h lent v
-  pub eviction-answers : (lent : List ℕ) (v r : ℕ) → refusalOf j s (evicting lent v) ≡ none → h v ≡ some r → answerOf j s (evicting lent v) ≡ evicted r
-  -- test 13 of a direct placement: it holds nothing and is not left over
-  pub standing : (v : ℕ) → isUnassigned s v ≡ (not (isSome (h v)) && not (isLeftOver s v))
 
 module _ (j : Job) (s : State) (h : Holding) (a : Agrees j s h) where
   same-some-test : (v : ℕ) → isSome (heldBy s v) ≡ isSome (h v)
@@ -81,12 +60,41 @@ module _ (j : Job) (s : State) (h : Holding) (a : Agrees j s h) where
             stands = ap (assignment false (flag s v)) (k .1) ∙ ap (λ (n : ℕ). Assigned (flag s v) n (k .0 .«preference_weight»)) (k .2);
           }
 
+  -- the entry of a cell, and its index
+  table-has :
+      (v u : ℕ) → HasUnit j h v u → (x : ValueSegment) → x ∈ segmentsOf j v
+      → (i : FixedIndex) × (record { unit = u; from = x .from; to = x .to; reservation = Held v i } ∈ s .table)
+  unfolding entryFor
+  table-has v u k x m =
+      let c = cellOf v u x in
+      let known = holder-known j s h a v (k .reg) (k .holds) .0 in (
+        fixedIndex (j .fixed) u x (j .fixed),
+        a .table .table .into (entryFor (j .fixed) c)
+            (cell c (cell-in j h c (record { reg = k .reg; holds = k .holds; known = known; unit = k .unit; segment = m })) refl),
+      )
+
+  table-only : (e : Entry) → Laid (j .fixed) (cellsOf j h) e → (e ∈ j .fixed) ⊎ HeldEntry j h e
+  unfolding entryFor
+  table-only e (reserved m r) = inl m
+  table-only e (cell c m q) =
+      let k = cell-out j h c m in
+      let at : e .unit ≡ c .u = ap (λ (x : Entry). x .unit) q in
+      inr
+      (record {
+        number = c .v;
+        segment = c .s;
+        index = fixedIndex (j .fixed) (c .u) (c .s) (j .fixed);
+        has = record { reg = k .reg; holds = k .holds; unit = subst (λ (u : ℕ). u ∈ unitsOf (unitMap j (k .reg))) (sym at) (k .unit) };
+        among = k .segment;
+        stands = q ∙ ap (λ (u : ℕ). record { unit = u; from = c .s .from; to = c .s .to; reservation = Held (c .v) (fixedIndex (j .fixed) (c .u) (c .s) (j .fixed)) }) (sym at);
+      })
+
   pub states-agree : Agreement j s h
   unfolding answerOf
   states-agree =
       record {
-        table = a .table;
-        registers = a .regs;
+        table-has = table-has;
+        table-only = λ e m. table-only e (a .table .table .out e m);
         records = λ v r. (record-out v r, record-in v r);
         queue = λ v q e. let w = a .queue v q e in (w .known, w .idle, w .stays);
         evictions = λ lent v. (
@@ -103,6 +111,5 @@ module _ (j : Job) (s : State) (h : Holding) (a : Agrees j s h) where
 pub agree-premises : (j : Job) → Premises j → (cs : List Call) → Agreement j (afterAll j cs) (holds j cs)
 agree-premises j p cs = states-agree j (afterAll j cs) (holds j cs) (after-agrees j p cs)
 
--- of every byte string that loads, whatever was lent
-pub agree : (lent bytes : List ℕ) (j : Job) → Bytes bytes → load lent bytes ≡ loaded j → (cs : List Call) → Agreement j (afterAll j cs) (holds j cs)
+pub agree : AgreementAfter
 agree lent bytes j b e = agree-premises j (stage-premises lent bytes j b e)

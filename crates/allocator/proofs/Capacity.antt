@@ -19,50 +19,29 @@ use Rattle.reg_matrix.specs.declared.Entry.{Entry}
 use Rattle.reg_matrix.specs.declared.Reservation.{Reservation}
 use Rattle.reg_matrix.specs.declared.Reservation.the-variants.{Held, FixedUse, FixedDef}
 use Rattle.reg_matrix.specs.declared.FixedIndex.the-variants.{At, NoIndex}
-use Rattle.reg_matrix.specs.declared.Interference.{Interference}
+use Rattle.reg_matrix.proofs.Places.{insert-longer}
 use Rattle.reg_matrix.proofs.Tests.{less-equal-greater}
 use Rattle.reg_matrix.proofs.Members.{_∈_}
 use Rattle.reg_matrix.proofs.Whole.{cellOf, cellsOn}
 use Rattle.reg_matrix.proofs.Laws.{table-size}
 use Rattle.job.specs.declared.Hint.{Hint}
 use Rattle.job.specs.Model.{VirtReg, Job, virtReg, noVirtReg, segmentsOf, unitMap, zeroWeight}
-use Rattle.job.specs.Load.{Bytes, loaded}
 use Rattle.job.proofs.Premises.{Premises, IsNumber, Plain}
 use Rattle.allocator.specs.State.{State, CandidateReg, Stage, Evict, Split, heldBy, weightOf, lastGiven}
-use Rattle.allocator.specs.Order.{candidate, grow, addHint, putBefore, byWeight, hasReg, orLast, hintedOrder, order}
+use Rattle.allocator.specs.Order.{candidate, grow, addHint, byWeight, hasReg, orLast, hintedOrder, order}
 use Rattle.allocator.specs.Queue.{stageBit, encode}
 use Rattle.allocator.specs.Evict.{holders, firsts, weights, spillWeight, maxWeight, greatestSpill, costOf}
-use Rattle.allocator.specs.Calls.{load, Call, afterAll}
+use Rattle.allocator.specs.Calls.{afterAll}
 use Rattle.allocator.specs.Holding.{Holding, holds}
+use Rattle.allocator.specs.Corollaries.{FitsBuffers, FitsBuffersAfter}
 use Rattle.allocator.proofs.Holders.{cellsIf, cellsOf}
 use Rattle.allocator.proofs.Weights.{plain-zero, plain-add, plain-cond}
-use Rattle.allocator.proofs.Agrees.{queuedAt, Sizes, Agrees, holder-known, last-named}
+use Rattle.allocator.proofs.Agrees.{Agrees, holder-known, last-named}
 use Rattle.allocator.proofs.Decisions.{Candidates, candidates-out, hinted-good, order-good}
 use Rattle.allocator.proofs.Runs.{after-agrees}
 use Rattle.allocator.proofs.Rebuilt.{named-known}
 use Rattle.allocator.proofs.Entries.{SmallReservation, entry-bounded}
 use Rattle.allocator.proofs.Loading.{stage-premises}
-
--- of a state of the job j
-pub record FitsBuffers (j : Job) (s : State) : Type 0 where
-  -- the table: its entries, the two words of each, and a fixed index in it
-  pub entries : length (s .table) ≤ maxEntries
-  pub end-words : (e : Entry) → e ∈ s .table → endWord e < greatest
-  pub rest-words : (e : Entry) → e ∈ s .table → restWord e < 2 ^ 64
-  pub indices : (e : Entry) → e ∈ s .table → (v i : ℕ) → e .reservation ≡ Held v (At i) → i < 512
-  -- the queue: the key of a number, at either stage
-  pub keys : (v : ℕ) → IsNumber j v → (q : Stage) → encode j v q < 2 ^ 64
-  pub queued : (v : ℕ) (q : Stage) → queuedAt s v ≡ some q → IsNumber j v
-  -- the lists: 512 places each, and register numbers below 64
-  pub places : Sizes s
-  pub held-regs : (v : ℕ) (c : CandidateReg) → heldBy s v ≡ some c → c .reg < 64
-  pub last-regs : (t r : ℕ) → getD (s .last) t none ≡ some r → r < 64
-  -- weights: of what is held, of candidates, of what candidates cost
-  pub held-weights : (v : ℕ) (c : CandidateReg) → heldBy s v ≡ some c → Plain (c .«preference_weight»)
-  pub hinted-weights : (v : ℕ) → IsNumber j v → (c : CandidateReg) → c ∈ hintedOrder (virtReg j v) (lastGiven j s v) → Plain (c .«preference_weight»)
-  pub candidate-weights : (v : ℕ) → IsNumber j v → (c : CandidateReg) → c ∈ order j v (hintedOrder (virtReg j v) (lastGiven j s v)) → Plain (c .«preference_weight»)
-  pub sums : (vs : List ℕ) → Plain (weights s vs)
-  pub costs : (rs : List Interference) → Plain (costOf j s rs .«preference_weight») × Plain (costOf j s rs .«spill_weight»)
 
 -- ---- how many hinted candidates
 
@@ -77,12 +56,7 @@ add-length (c ∷ cs) h = go (eqb (c .reg) (h .reg)) (add-length cs h)
 
 by-weight-length : (cs : List CandidateReg) (c : CandidateReg) → length (byWeight cs c) ≤ suc (length cs)
 unfolding byWeight
-by-weight-length [] c = omega arith
-by-weight-length (d ∷ ds) c = go (lt (d .«preference_weight») (c .«preference_weight»)) (by-weight-length ds c)
-  where
-    go : (b : Bool) → length (byWeight ds c) ≤ suc (length ds) → length (putBefore b c d ds (byWeight ds c)) ≤ suc (suc (length ds))
-    go true ih = omega arith
-    go false ih = omega arith
+by-weight-length cs c = omega (arith, insert-longer (λ c d. lt (d .«preference_weight») (c .«preference_weight»)) c cs)
 
 fold-length : {A : Type 0} (f : List CandidateReg → A → List CandidateReg) → ((cs : List CandidateReg) (x : A) → length (f cs x) ≤ suc (length cs)) → (xs : List A) (cs : List CandidateReg) → length (foldl f cs xs) ≤ length cs + length xs
 unfolding foldl
@@ -225,7 +199,7 @@ module _ (j : Job) (p : Premises j) (s : State) (h : Holding) (a : Agrees j s h)
         indices = small-index;
         keys = key;
         queued = λ v q e. a .queue v q e .known;
-        places = a .sizes;
+        places = let z = a .sizes in (z .held, z .leftOver, z .flags, z .queued, z .last);
         held-regs = λ v c q. let k = a .holder v c q in omega (arith, named-known j p v (c .reg) (k .0) (k .1 .names), p .few-regs);
         last-regs = λ t r q. let k = a .last t r q in omega (arith, named-known j p (k .member) r (k .known) (k .names), p .few-regs);
         held-weights = λ v c q. a .holder v c q .1 .plain;
@@ -239,8 +213,7 @@ module _ (j : Job) (p : Premises j) (s : State) (h : Holding) (a : Agrees j s h)
       hinted : (v : ℕ) → IsNumber j v → Candidates j v (hintedOrder (virtReg j v) (lastGiven j s v))
       hinted v b = hinted-good j p v b (lastGiven j s v) (λ r q. last-named j p s h a v r b q)
 
--- of every byte string that loads, whatever was lent, after any list of calls
-pub capacity : (lent bytes : List ℕ) (j : Job) → Bytes bytes → load lent bytes ≡ loaded j → (cs : List Call) → FitsBuffers j (afterAll j cs)
+pub capacity : FitsBuffersAfter
 capacity lent bytes j b e cs =
     let p = stage-premises lent bytes j b e in
     fits-buffers j p (afterAll j cs) (holds j cs) (after-agrees j p cs)

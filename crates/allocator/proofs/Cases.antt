@@ -1,16 +1,19 @@
 -- The marked cases A to K of document 01, and cases beyond them, as one table with one proof. Assumes nothing.
 -- A row has a job's bytes and the calls made on it. Without calls it shows the printed sheet; with calls what each prints (docs/SCRIPT.md),
 -- refusals and the whole state too, and then `h N R` for each number N that holds a register R, by Holding.
-use Prim.Native.Nat.{ℕ}
+use Prim.Native.Nat.{ℕ, suc, _-_}
 use Prim.Native.String.{String}
-use mathlib.Core.List.{List, [], _∷_, _++_}
+use mathlib.Core.List.{List, [], _∷_, _++_, map}
 use mathlib.Core.Bool.{Bool, true, false, _&&_}
-use lib.Dec.{T}
-use lib.Ieee.{binary32, ofBits}
-use Rattle.reg_matrix.specs.Lists.{ascii, same, all, concatMap}
+use lib.Dec.{T, eqb}
+use lib.Ieee.{binary32, ofBits, nan}
+use lib.ListN.{getD, set}
+use Rattle.reg_matrix.specs.Lists.{ascii, same, all, concatMap, count}
 use Rattle.reg_matrix.specs.Lines.{number, sp, line, refusedLine}
 use Rattle.reg_matrix.specs.declared.ValueSegment.{ValueSegment}
+use Rattle.job.specs.Model.{zeroWeight}
 use Rattle.job.specs.Load.{Loaded, notLoaded, loaded}
+use Rattle.job.specs.Layout.{loadLimits}
 use Rattle.job.proofs.Hex.{hex, hexFrom, isHex, isHexFrom}
 use Rattle.allocator.specs.State.{freshState}
 use Rattle.allocator.specs.Layout.{stageLimits}
@@ -56,6 +59,13 @@ evict v = calls (evicting stageLimits v)
 
 abbrev run : ℕ → ScriptCall
 run b = calls (running stageLimits b)
+
+-- what calls are lent, with the buffer of this place one short; and every buffer one longer
+abbrev oneShort : ℕ → List ℕ
+oneShort i = set stageLimits i (getD stageLimits i 0 - 1)
+
+abbrev longer : List ℕ
+longer = map suc stageLimits
 
 abbrev seg : ℕ → ℕ → ℕ → ValueSegment
 seg a b x = record { from = a; to = b; value = x }
@@ -442,6 +452,20 @@ cases =
       shows = "ok" ∷ "s 0 assigned 0 0 0" ∷ "s 1 unassigned 0" ∷ "q 9223372058329612289" ∷ "l 0:0" ∷ "u 0 4 20 held 0 -" ∷ "refused 14" ∷ "s 0 assigned 0 0 0" ∷ "s 1 unassigned 0" ∷ "q 9223372058329612289" ∷ "l 0:0" ∷ "u 0 4 20 held 0 -" ∷ "refused 13" ∷ "s 0 assigned 0 0 0" ∷ "s 1 unassigned 0" ∷ "q 9223372058329612289" ∷ "l 0:0" ∷ "u 0 4 20 held 0 -" ∷ "h 0 0" ∷ [];
     }
     ∷
+    -- 15: a placement, an eviction and a run with a buffer one short; each changes nothing, and longer buffers do
+    record {
+      job = "0B 01 0100000000000000 01 0100 0200 2C 0000803F 0A000000 0100 04000000140000000100 2C 00000040 05000000 0100 08000000100000000200";
+      calls = calls (placing (oneShort 0) 0 0 zeroWeight) ∷ calls (placing longer 0 0 zeroWeight) ∷ calls (evicting (oneShort 17) 0) ∷ calls (running (oneShort 18) 9) ∷ calls (evicting longer 0) ∷ calls (running longer 1) ∷ [];
+      shows = "refused 15" ∷ "s 0 unassigned 0" ∷ "s 1 unassigned 0" ∷ "q 9223372079804448768 9223372058329612289" ∷ "l" ∷ "ok" ∷ "s 0 assigned 0 0 0" ∷ "s 1 unassigned 0" ∷ "q 9223372058329612289" ∷ "l 0:0" ∷ "u 0 4 20 held 0 -" ∷ "refused 15" ∷ "s 0 assigned 0 0 0" ∷ "s 1 unassigned 0" ∷ "q 9223372058329612289" ∷ "l 0:0" ∷ "u 0 4 20 held 0 -" ∷ "refused 15" ∷ "s 0 assigned 0 0 0" ∷ "s 1 unassigned 0" ∷ "q 9223372058329612289" ∷ "l 0:0" ∷ "u 0 4 20 held 0 -" ∷ "ok" ∷ "s 0 unassigned 0" ∷ "s 1 unassigned 0" ∷ "q 9223372079804448768 9223372058329612289" ∷ "l 0:0" ∷ "end spent 1" ∷ "s 0 assigned 0 0 0" ∷ "s 1 unassigned 0" ∷ "q 9223372058329612289" ∷ "l 0:0" ∷ "u 0 4 20 held 0 -" ∷ "h 0 0" ∷ [];
+    }
+    ∷
+    -- 15 goes ahead of 8 and 9, and of 13; a missing buffer is a short one
+    record {
+      job = "0B 01 0100000000000000 01 0100 0200 2C 0000803F 0A000000 0100 04000000140000000100 2C 00000040 05000000 0100 08000000100000000200";
+      calls = calls (placing [] 2 1 nan) ∷ calls (evicting loadLimits 2) ∷ calls (evicting (oneShort 16) 0) ∷ [];
+      shows = "refused 15" ∷ "s 0 unassigned 0" ∷ "s 1 unassigned 0" ∷ "q 9223372079804448768 9223372058329612289" ∷ "l" ∷ "refused 15" ∷ "s 0 unassigned 0" ∷ "s 1 unassigned 0" ∷ "q 9223372079804448768 9223372058329612289" ∷ "l" ∷ "refused 15" ∷ "s 0 unassigned 0" ∷ "s 1 unassigned 0" ∷ "q 9223372079804448768 9223372058329612289" ∷ "l" ∷ [];
+    }
+    ∷
     -- the key 0: number 0 at stage Split, with no hints and size 0, waits
     record {
       job = "0F 01 0100000000000000 01 0100 0100 0A 08000000 0100 0100 20 0100 04000000140000000200";
@@ -454,3 +478,13 @@ cases =
 cases-right : T (all right cases)
 unfolding opened hex hexFrom isHex isHexFrom holderLine right cases
 cases-right = tt
+
+-- ---- 15 on loading a stage: whichever of its 19 buffers is one short; longer ones do
+
+abbrev answerOfLoad : Loaded → ℕ
+answerOfLoad (notLoaded n) = n
+answerOfLoad (loaded j) = 0
+
+loads-right : T (all (λ i. eqb (answerOfLoad (load (oneShort i) (0 ∷ []))) 15) (count 0 19) && eqb (answerOfLoad (load longer (0 ∷ []))) 0)
+unfolding opened
+loads-right = tt

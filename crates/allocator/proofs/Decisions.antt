@@ -9,19 +9,18 @@ use mathlib.Core.Bool.{Bool, true, false, not, _&&_, _||_, cond}
 use lib.Dec.{T, eqb, eqb→eq, eqb-refl, T-not}
 use lib.Ieee.{binary32, lt}
 use lib.ListN.{length}
-use Rattle.reg_matrix.specs.Lists.{any, first, orElse, has, foldl, isNil}
+use Rattle.reg_matrix.specs.Lists.{any, first, orElse, putBefore, insertBy, has, foldl, isNil}
 use Rattle.reg_matrix.specs.declared.Interference.{Interference}
 use Rattle.reg_matrix.specs.declared.InterferenceKind.{InterferenceKind}
 use Rattle.reg_matrix.specs.declared.InterferenceKind.the-variants.{Fixed, VirtReg}
 use Rattle.reg_matrix.proofs.Tests.{both, both-in, or-left, or-right, eqb-in}
-use Rattle.reg_matrix.proofs.Members.{_∈_, filter-out, filter-in, any-in, concat-in, count-in}
+use Rattle.reg_matrix.proofs.Members.{_∈_, filter-out, filter-in, any-in, getD-in, concat-in, count-in}
 use Rattle.job.specs.declared.Hint.{Hint}
 use Rattle.job.specs.Model as model
 use Rattle.job.specs.Model.{Job, virtReg, noVirtReg, classOf, zeroWeight}
 use Rattle.job.proofs.Premises.{Premises, IsNumber, Plain}
-use Rattle.job.proofs.Lists.{getD-in}
 use Rattle.allocator.specs.State.{State, CandidateReg, Stage, Evict, Split, flag, lastGiven, checkOf}
-use Rattle.allocator.specs.Order.{candidate, grow, addHint, putBefore, byWeight, hasReg, orLast, hintedOrder, order, highestPreference}
+use Rattle.allocator.specs.Order.{candidate, grow, addHint, byWeight, hasReg, orLast, hintedOrder, order, highestPreference}
 use Rattle.allocator.specs.Evict.{isFixed, holder, ruledOut, holders, evictees, weights, spillWeight, costOf, allowed, cheaper, Eviction, bestCost, better, tryEvict, preferred}
 use Rattle.allocator.specs.Dequeue.{Decision, leaves, takes, splits, fails, isInfinite, evicteesOf, byEviction, noneClear, orPreferred, byClear, isClear, byCandidates, decide}
 use Rattle.allocator.specs.Calls.{named}
@@ -127,12 +126,13 @@ module _ (j : Job) (v : ℕ) where
       go true ih = (record { names = a .0 .names; plain = plain-add binary32 (c .«preference_weight») (h .weight) (a .0 .plain) (g .plain) }, a .1)
       go false ih = (a .0, ih)
 
-  insert-good : (cs : List CandidateReg) (c : CandidateReg) → Candidates cs → Candidate j v c → Candidates (byWeight cs c)
-  unfolding byWeight
-  insert-good [] c a g = (g, tt)
-  insert-good (d ∷ ds) c a g = go (lt (d .«preference_weight») (c .«preference_weight»)) (insert-good ds c (a .1) g)
+  -- in whatever order
+  insert-good : (before : CandidateReg → CandidateReg → Bool) (cs : List CandidateReg) (c : CandidateReg) → Candidates cs → Candidate j v c → Candidates (insertBy before c cs)
+  unfolding insertBy
+  insert-good before [] c a g = (g, tt)
+  insert-good before (d ∷ ds) c a g = go (before c d) (insert-good before ds c (a .1) g)
     where
-      go : (b : Bool) → Candidates (byWeight ds c) → Candidates (putBefore b c d ds (byWeight ds c))
+      go : (b : Bool) → Candidates (insertBy before c ds) → Candidates (putBefore b c d ds (insertBy before c ds))
       go true ih = (g, a)
       go false ih = (a .0, ih)
 
@@ -184,11 +184,11 @@ module _ (j : Job) (p : Premises j) (v : ℕ) (b : IsNumber j v) where
 
   -- the hinted candidates and all candidates, where the register last given to the set is named
   pub hinted-good : (o : Option ℕ) → ((r : ℕ) → o ≡ some r → T (named j v r)) → Candidates j v (hintedOrder (virtReg j v) o)
-  unfolding hintedOrder
+  unfolding hintedOrder byWeight
   hinted-good o l =
       let sums = foldl addHint [] (virtReg j v .hints) in
       let a = fold-good j v (GoodHint j v) addHint (add-good j v) (virtReg j v .hints) good-hints [] tt in
-      last-good j v (foldl byWeight [] sums) o (fold-good j v (Candidate j v) byWeight (insert-good j v) sums (candidates-out j v sums a) [] tt) l
+      last-good j v (foldl byWeight [] sums) o (fold-good j v (Candidate j v) byWeight (λ cs c. insert-good j v _ cs c) sums (candidates-out j v sums a) [] tt) l
 
   pub order-good : (hinted : List CandidateReg) → Candidates j v hinted → Candidates j v (order j v hinted)
   unfolding order

@@ -1,7 +1,6 @@
 -- Demand 3, on whole lists of calls, as specs/Demand.antt states it: the table after them is the one that placing the holders anew gives, none
 -- refused, and tables are the same, entry by entry and line by line, exactly when the same numbers hold the same registers. Assumes nothing.
 use mathlib.Core.Path.{_≡_, ap}
-use mathlib.Core.Logic.{_↔_}
 use mathlib.Core.List.{List}
 use Prim.Native.Nat.{ℕ}
 use Rattle.reg_matrix.specs.Lines.{entryLine, tableLines}
@@ -12,11 +11,12 @@ use Rattle.job.proofs.Premises.{Premises}
 use Rattle.allocator.specs.Calls.{Call, afterAll}
 use Rattle.allocator.specs.Holding.{holds}
 use Rattle.allocator.specs.Demand.{holdersAfter, placements, TablesAreHolders, Demand3}
+use Rattle.allocator.specs.Corollaries.{EntryLines}
 use Rattle.allocator.proofs.Agrees.{Agrees}
 use Rattle.allocator.proofs.Runs.{after-agrees}
 use Rattle.allocator.proofs.Rebuilt.{holders-accepted, same-table}
 use Rattle.allocator.proofs.Shown.{table-shows, holders-decide}
-use Rattle.allocator.proofs.PrintedLines.{same-line, same-lines}
+use Rattle.allocator.proofs.PrintedLines.{Short, same-line, same-lines}
 use Rattle.allocator.proofs.Entries.{entry-short}
 use Rattle.allocator.proofs.Loading.{stage-premises}
 
@@ -53,9 +53,15 @@ demand3-premises j p =
 pub demand3 : Demand3
 demand3 lent bytes j b e = demand3-premises j (stage-premises lent bytes j b e)
 
--- Entries are equal where their printed lines are: any two, of tables after any calls.
-pub entry-lines : (j : Job) → Premises j → (cs ds : List Call) (e f : Entry) → e ∈ afterAll j cs .table → f ∈ afterAll j ds .table → (entryLine e ≡ entryLine f) ↔ (e ≡ f)
-entry-lines j p cs ds e f m n = (
-  same-line e f (entry-short j p (afterAll j cs) (holds j cs) (after-agrees j p cs) e m) (entry-short j p (afterAll j ds) (holds j ds) (after-agrees j p ds) f n),
+-- Entries are equal where their printed lines are.
+pub entry-lines : EntryLines
+entry-lines lent bytes j b q cs ds e f m n = (
+  same-line e f (short cs e m) (short ds f n),
   ap entryLine,
 )
+  where
+    p : Premises j
+    p = stage-premises lent bytes j b q
+
+    short : (cs : List Call) (e : Entry) → e ∈ afterAll j cs .table → Short e
+    short cs = entry-short j p (afterAll j cs) (holds j cs) (after-agrees j p cs)

@@ -3,7 +3,7 @@
 use Prim.Native.Nat.{ℕ, _<_}
 use native.Mathlib.Omega.{arith}
 use mathlib.Core.Path.{_≡_, refl, sym, ap, ap₂, _∙_, subst}
-use mathlib.Core.Logic.{_⊎_, inl, inr, _↔_}
+use mathlib.Core.Logic.{_⊎_, inl, inr}
 use mathlib.Core.List.{List, [], _∷_}
 use mathlib.Core.Option.{Option, none, some}
 use mathlib.Core.Bool.{Bool, true, false, _&&_, _||_, cond}
@@ -14,22 +14,19 @@ use Rattle.reg_matrix.specs.Lists.{foldl, has, isSome}
 use Rattle.reg_matrix.proofs.Tests.{eqb-in, same-test}
 use Rattle.reg_matrix.proofs.Members.{_∈_}
 use Rattle.job.specs.Model.{Job}
-use Rattle.job.specs.Load.{Bytes, loaded}
 use Rattle.job.proofs.Premises.{Premises}
 use Rattle.allocator.specs.State.{State, CandidateReg, Stage, Evict, heldBy, lose, loseHeld, evictNumber, give}
-use Rattle.allocator.specs.Dequeue.{goesOn, takes, evictAll, carryOut}
+use Rattle.allocator.specs.Dequeue.{goesOn, evictAll, carryOut}
 use Rattle.allocator.specs.Run.{run}
-use Rattle.allocator.specs.Calls.{load, Call, afterAll}
+use Rattle.allocator.specs.Calls.{afterAll}
 use Rattle.allocator.specs.Holding.{Holding, but, holds}
+use Rattle.allocator.specs.Corollaries.{SameMembers, EvictOrder}
 use Rattle.allocator.proofs.Holders.{none-some}
 use Rattle.allocator.proofs.Agrees.{Agrees, queuedAt, set-cases, evict-agrees}
 use Rattle.allocator.proofs.Decisions.{has-in, has-out}
 use Rattle.allocator.proofs.Runs.{without, without-cases, evictAll-keeps, evictAll-agrees, run-agrees, after-agrees}
 use Rattle.allocator.proofs.Shown.{holders-decide}
 use Rattle.allocator.proofs.Loading.{stage-premises}
-
-abbrev pub SameMembers : List ℕ → List ℕ → Type 0
-SameMembers vs ws = (v : ℕ) → (v ∈ vs) ↔ (v ∈ ws)
 
 -- ---- what evictions leave in the records and in the queue
 
@@ -170,15 +167,7 @@ module _ (j : Job) (p : Premises j) (s : State) (h : Holding) (a : Agrees j s h)
     last = unchanged (λ (s : State). s .last) (λ v r s. refl) i;
   }
 
--- Of every byte string that loads, whatever was lent: in a run with any budget after any list of calls, a decision with other evictions in the
--- place of its own, of the same members, is carried out to the same state.
-pub evict-order :
-    (lent bytes : List ℕ) (j : Job)
-    → Bytes bytes
-    → load lent bytes ≡ loaded j
-    → (cs : List Call) (b v : ℕ) (c : CandidateReg) (f : Bool) (vs ws : List ℕ)
-    → SameMembers vs ws
-    → carryOut j (run j b (afterAll j cs) .state) v (takes c f vs) ≡ carryOut j (run j b (afterAll j cs) .state) v (takes c f ws)
+pub evict-order : EvictOrder
 unfolding carryOut
 evict-order lent bytes j t e cs b v c f vs ws m =
     let p = stage-premises lent bytes j t e in

@@ -53,7 +53,11 @@ good-fresh j p = record { premises = p; holding = nothingHeld; agrees = fresh-ag
 pub good-reached : (j : Job) (s : State) → Reached j s → Good j s
 good-reached j s r =
     let p = stage-premises (r .lent) (r .bytes) j (r .are-bytes) (r .loads) in
-    record { premises = p; holding = holds j (r .calls); agrees = subst (λ (s : State). Agrees j s (holds j (r .calls))) (sym (r .made)) (after-agrees j p (r .calls)) }
+    record {
+      premises = p;
+      holding = holds j (r .calls);
+      agrees = subst (λ (s : State). Agrees j s (holds j (r .calls))) (sym (r .made)) (after-agrees j p (r .calls));
+    }
 
 module _ (j : Job) (s : State) (g : Good j s) where
   -- ---- who is idle
@@ -149,7 +153,12 @@ module _ (j : Job) (s : State) (g : Good j s) where
           candidate = t .good;
           reg = named-known j (g .premises) v (c .reg) (i .known) (t .good .names);
           evicted = good-evict-all vs;
-          idle = record { known = w .known; holds-nothing = nothing-held (heldBy (evictAll j vs s) v) (evictAll-agrees j (g .premises) vs s (g .holding) (g .agrees) .regs v ∙ w .idle); stays = w .stays };
+          idle =
+              record {
+                known = w .known;
+                holds-nothing = nothing-held (heldBy (evictAll j vs s) v) (evictAll-agrees j (g .premises) vs s (g .holding) (g .agrees) .regs v ∙ w .idle);
+                stays = w .stays;
+              };
           clear = evicted-clear j (g .premises) s (g .holding) (g .agrees) v (idle-waiting v i) c vs t;
         }
 
@@ -226,7 +235,11 @@ module _ (j : Job) (s : State) (r : Reached j s) where
           subst (λ (o : Option CandidateReg). Reached j (loseHeld j v s o)) q
           (reached-accepted (evicting stageLimits v)
           (evicting-accepted j s stageLimits v .1
-          (record { lends = limits-suffice; known = good-reached j s r .agrees .holder v c q .0; assigned = subst (λ (o : Option CandidateReg). T (isSome o)) (sym q) tt })))
+          (record {
+            lends = limits-suffice;
+            known = good-reached j s r .agrees .holder v c q .0;
+            assigned = subst (λ (o : Option CandidateReg). T (isSome o)) (sym q) tt;
+          })))
 
 -- after evictions one after another
 pub reached-evict-all : (j : Job) (vs : List ℕ) (s : State) → Reached j s → Reached j (evictAll j vs s)

@@ -127,12 +127,6 @@ pub record OfHolder (j : Job) (h : Holding) (c : Cell) : Type 0 where
   pub unit : c .u ∈ unitsOf (unitMap j reg)
   pub segment : c .s ∈ segmentsOf j (c .v)
 
--- v holds a register that has the unit u
-pub record HasUnit (j : Job) (h : Holding) (v u : ℕ) : Type 0 where
-  pub reg : ℕ
-  pub holds : h v ≡ some reg
-  pub unit : u ∈ unitsOf (unitMap j reg)
-
 module _ (j : Job) where
   pub cell-in : (h : Holding) (c : Cell) → OfHolder j h c → c ∈ cellsOf j h
   unfolding cellsOf

@@ -17,4 +17,6 @@ pub mod NeverShared
 pub mod EvictOrder
 pub mod Capacity
 pub mod Good
+pub mod Records
 pub mod NotBytes
+pub mod TestsNeeded

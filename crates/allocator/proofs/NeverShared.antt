@@ -1,10 +1,9 @@
 -- What the box needs: after every list of calls no two virtual registers that hold registers with a common unit are live at a common point, and
 -- none overlaps a fixed reservation of a unit of its register, except fixed uses of its own value. Assumes nothing.
-use Prim.Native.Nat.{ℕ, _<_, _≤_}
+use Prim.Native.Nat.{ℕ, _<_}
 use native.Mathlib.Omega.{arith}
 use mathlib.Core.Path.{_≡_, refl, ap, _∙_}
 use mathlib.Core.Logic.{inl, inr}
-use mathlib.Core.List.{List}
 use mathlib.Core.Option.{none, some}
 use lib.Dec.{T, eqb→eq}
 use Rattle.reg_matrix.specs.Check.{ownUse}
@@ -16,32 +15,16 @@ use Rattle.reg_matrix.proofs.Members.{_∈_}
 use Rattle.reg_matrix.proofs.Cells.{Disjoint, Free, →overlaps}
 use Rattle.reg_matrix.proofs.Whole.{cellOf}
 use Rattle.job.specs.Model.{Job, segmentsOf}
-use Rattle.job.specs.Load.{Bytes, loaded}
 use Rattle.job.proofs.Premises.{Premises}
 use Rattle.allocator.specs.State.{State}
-use Rattle.allocator.specs.Calls.{load, Call, afterAll}
+use Rattle.allocator.specs.Calls.{afterAll}
 use Rattle.allocator.specs.Holding.{Holding, but, holds}
-use Rattle.allocator.proofs.Holders.{but-other, HasUnit, cellsOf, cell-in, free-beside}
+use Rattle.allocator.specs.Corollaries.{HasUnit, LiveAt, NeverShared, NeverSharedAfter}
+use Rattle.allocator.proofs.Holders.{but-other, cellsOf, cell-in, free-beside}
 use Rattle.allocator.proofs.Agrees.{Agrees, holder-known}
 use Rattle.allocator.proofs.Runs.{after-agrees}
 use Rattle.allocator.proofs.Rebuilt.{named-known}
 use Rattle.allocator.proofs.Loading.{stage-premises}
-
--- v is live at the point x: one of its segments has it
-pub record LiveAt (j : Job) (v x : ℕ) : Type 0 where
-  pub segment : ValueSegment
-  pub among : segment ∈ segmentsOf j v
-  pub starts : segment .from ≤ x
-  pub ends : x < segment .to
-
-pub record NeverShared (j : Job) (h : Holding) : Type 0 where
-  -- two that have a unit in common: no segment of the one overlaps a segment of the other, and they are live at no common point
-  pub units-apart : (v w u : ℕ) → (v ≡ w → ⊥) → HasUnit j h v u → HasUnit j h w u → (s t : ValueSegment) → s ∈ segmentsOf j v → t ∈ segmentsOf j w → Disjoint s t
-  pub units-once : (v w u : ℕ) → (v ≡ w → ⊥) → HasUnit j h v u → HasUnit j h w u → (x : ℕ) → LiveAt j v x → LiveAt j w x → ⊥
-  -- so no two live numbers share a register
-  pub registers-once : (v w r : ℕ) → (v ≡ w → ⊥) → h v ≡ some r → h w ≡ some r → (x : ℕ) → LiveAt j v x → LiveAt j w x → ⊥
-  -- a fixed reservation of a unit that v has, and that a segment of v overlaps, is a fixed use of the segment's value
-  pub own-uses : (v u : ℕ) → HasUnit j h v u → (e : Entry) → e ∈ j .fixed → e .unit ≡ u → (s : ValueSegment) → s ∈ segmentsOf j v → e .from < s .to → s .from < e .to → e .reservation ≡ FixedUse (s .value)
 
 module _ (j : Job) (p : Premises j) (s : State) (h : Holding) (a : Agrees j s h) where
   -- a segment of a holder, on a unit that it has, is free beside what all others have
@@ -85,8 +68,7 @@ module _ (j : Job) (p : Premises j) (s : State) (h : Holding) (a : Agrees j s h)
   pub never-shared-by : NeverShared j h
   never-shared-by = record { units-apart = units-apart; units-once = units-once; registers-once = registers-once; own-uses = own-uses }
 
--- of every byte string that loads, whatever was lent, after any list of calls
-pub never-shared : (lent bytes : List ℕ) (j : Job) → Bytes bytes → load lent bytes ≡ loaded j → (cs : List Call) → NeverShared j (holds j cs)
+pub never-shared : NeverSharedAfter
 never-shared lent bytes j b e cs =
     let p = stage-premises lent bytes j b e in
     never-shared-by j p (afterAll j cs) (holds j cs) (after-agrees j p cs)

@@ -1,10 +1,9 @@
 -- Why demand 3 asks that the job's bytes are bytes: with a 256 among them a register's map can be 2^64, which is not 0 and yet has no unit.
 -- Placing a number in that register changes who holds what and leaves the table as it is. Assumes nothing.
 use Prim.Native.Nat.{ℕ}
-use native.Mathlib.Omega.{arith}
 use mathlib.Core.Path.{_≡_, refl}
 use mathlib.Core.List.{List, [], _∷_}
-use mathlib.Core.Option.{Option, none, some}
+use mathlib.Core.Option.{none}
 use Rattle.job.specs.Model.{Job, zeroWeight}
 use Rattle.job.specs.Load.{Loaded, notLoaded, loaded}
 use Rattle.allocator.specs.Layout.{stageLimits}

@@ -2,7 +2,7 @@
 use Prim.Native.Nat.{ℕ}
 use lib.Count.{onesIn}
 use lib.Ieee.{add, lt, eq, ofBits, toBits, nanBits}
-use Rattle.reg_matrix.specs.Lists.{filter, any, all, first, anyPair, concatMap, foldl, count, has, ascii, same, padded}
+use Rattle.reg_matrix.specs.Lists.{filter, any, all, first, anyPair, insertBy, concatMap, foldl, count, has, ascii, same, padded}
 use Rattle.reg_matrix.specs.Refusals.{refusal, shortBuffer, rangeRefusal, rangesRefusal}
 use Rattle.reg_matrix.specs.Table.{unitsOf, fixedUses, insert, insertAll, freshTable, onUnit}
 use Rattle.reg_matrix.specs.Check.{usesUnder, reportsOf, checkOn, check}
@@ -25,5 +25,5 @@ use Rattle.allocator.specs.Sheet.{standingLine, registerUnits, spareLine
 use Rattle.allocator.specs.Script.{scriptCall, insertKey, queueKeys, lastTexts, stateLines, saidBy, saidByAll, transcriptFrom, transcript}
 
 unfoldable pub opened : ℕ
-unfolding onesIn add lt eq ofBits toBits nanBits filter any all first anyPair concatMap foldl count has ascii same padded refusal shortBuffer rangeRefusal rangesRefusal unitsOf fixedUses insert insertAll freshTable onUnit usesUnder reportsOf checkOn check firstUse fixedIndex assignSegment assign evictSegment evict checkRefusal askCheck isUnitFree spareRefusal askSpare digits reservationText entryLine tableLines reportLine virtReg each little countOf known register class fixedFields lastEnd fixedRange fixedTests reservation hint range pastOf segment hintsIn segmentsIn hintCount segmentCount hints segments spillBits virtRegFields virtRegAt virtRegAfter jobFields twin mixedSet cutUse wholeJob loadWith freshState checkOf recordOf records give lose evictNumber requeue leave addHint byWeight hasReg hintedOrder order encode nextFrom ruledOut holders firsts evictees weights greatestSpill costOf better tryEvict preferred isClear decide evictAll carryOut dequeue runFrom run load named refusalOf carriedOut after answerOf answers afterAll byRun byCall byCalls holds holdersAfter placements standingLine registerUnits spareLine sheet printed scriptCall insertKey queueKeys lastTexts stateLines saidBy saidByAll transcriptFrom transcript
+unfolding onesIn add lt eq ofBits toBits nanBits filter any all first anyPair insertBy concatMap foldl count has ascii same padded refusal shortBuffer rangeRefusal rangesRefusal unitsOf fixedUses insert insertAll freshTable onUnit usesUnder reportsOf checkOn check firstUse fixedIndex assignSegment assign evictSegment evict checkRefusal askCheck isUnitFree spareRefusal askSpare digits reservationText entryLine tableLines reportLine virtReg each little countOf known register class fixedFields lastEnd fixedRange fixedTests reservation hint range pastOf segment hintsIn segmentsIn hintCount segmentCount hints segments spillBits virtRegFields virtRegAt virtRegAfter jobFields twin mixedSet cutUse wholeJob loadWith freshState checkOf recordOf records give lose evictNumber requeue leave addHint byWeight hasReg hintedOrder order encode nextFrom ruledOut holders firsts evictees weights greatestSpill costOf better tryEvict preferred isClear decide evictAll carryOut dequeue runFrom run load named refusalOf carriedOut after answerOf answers afterAll byRun byCall byCalls holds holdersAfter placements standingLine registerUnits spareLine sheet printed scriptCall insertKey queueKeys lastTexts stateLines saidBy saidByAll transcriptFrom transcript
 opened = 0

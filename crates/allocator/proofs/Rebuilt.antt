@@ -12,7 +12,7 @@ use lib.ListN.{length, getD, replicate}
 use Rattle.reg_matrix.specs.Lists.{foldl, concatMap, count, any, has, isSome}
 use Rattle.reg_matrix.specs.Refusals.{shortBuffer}
 use Rattle.reg_matrix.proofs.Tests.{both, both-in, either}
-use Rattle.reg_matrix.proofs.Members.{_∈_, any-out}
+use Rattle.reg_matrix.proofs.Members.{_∈_, any-out, getD-in}
 use Rattle.reg_matrix.proofs.Places.{replicate-default}
 use Rattle.reg_matrix.proofs.Cells.{Among, free-among}
 use Rattle.reg_matrix.proofs.Whole.{cellOf, AllFree}
@@ -20,7 +20,6 @@ use Rattle.reg_matrix.proofs.Laws.{clear-free, table-decided}
 use Rattle.job.specs.declared.Hint.{Hint}
 use Rattle.job.specs.Model.{VirtReg, Job, virtReg, classOf, segmentsOf, unitMap, zeroWeight}
 use Rattle.job.proofs.Premises.{Premises, IsNumber, IsReg}
-use Rattle.job.proofs.Lists.{getD-in}
 use Rattle.allocator.specs.State.{State, CandidateReg, freshState, heldBy, isLeftOver, checkOf, give}
 use Rattle.allocator.specs.Order.{candidate}
 use Rattle.allocator.specs.Layout.{stageLimits}

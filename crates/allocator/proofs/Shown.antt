@@ -16,7 +16,8 @@ use Rattle.job.specs.Model.{Job, segmentsOf, unitMap}
 use Rattle.job.proofs.Premises.{Premises, IsNumber, UnitsWithin}
 use Rattle.allocator.specs.State.{State}
 use Rattle.allocator.specs.Holding.{Holding}
-use Rattle.allocator.proofs.Holders.{none-some, same-some, HasUnit, cellsOf, cell-in, cell-out, TableOf}
+use Rattle.allocator.specs.Corollaries.{HasUnit}
+use Rattle.allocator.proofs.Holders.{none-some, same-some, cellsOf, cell-in, cell-out, TableOf}
 use Rattle.allocator.proofs.Agrees.{Agrees, holder-known}
 use Rattle.allocator.proofs.Rebuilt.{named-known}
 

@@ -15,53 +15,58 @@ pub use Rattle.allocator.specs.declared.EvictCost.{EvictCost}
 
 -- ---- who is reported
 
+-- 01, "Costs": a fixed report
 abbrev pub isFixed : InterferenceKind → Bool
 isFixed Fixed = true
 isFixed (VirtReg v) = false
 
+-- 01, "Costs": the holder that a report is of
 abbrev pub holder : InterferenceKind → List ℕ
 holder Fixed = []
 holder (VirtReg v) = v ∷ []
 
--- "A fixed report rules a candidate out of either."
+-- 01, "Costs": "A fixed report rules a candidate out of either."
 unfoldable pub ruledOut : List Interference → Bool
 ruledOut rs = any (λ r. isFixed (r .kind)) rs
 
--- the holders at every report, in order
+-- 01, "Costs": the holders "at every report", in order
 unfoldable pub holders : List Interference → List ℕ
 holders rs = concatMap (λ r. holder (r .kind)) rs
 
--- each number once, where it first stands, but for those seen
+-- 01, "Costs": "counts once": each number where it first stands, but for those seen
 unfoldable pub firsts : List ℕ → List ℕ → List ℕ
 firsts seen [] = []
 firsts seen (v ∷ vs) = keep (not (has v seen)) v (firsts (v ∷ seen) vs)
 
--- the holders as a set: ascending, each once
+-- 01, "Costs": the holders as a set, ascending, each once
 unfoldable pub evictees : Job → List Interference → List ℕ
 evictees j rs = filter (λ v. has v (holders rs)) (count 0 (length (j .virtRegs)))
 
 -- ---- costs
 
--- the weights with which they hold their registers, added in this order from 0
+-- 01, "Costs": the weights with which they hold their registers, added in this order from 0
 unfoldable pub weights : State → List ℕ → Float
 weights s vs = foldl (λ w v. add binary32 w (weightOf (heldBy s v))) zeroWeight vs
 
+-- 01, "The job": the spill weight of v
 abbrev pub spillWeight : Job → ℕ → Float
 spillWeight j v = virtReg j v .spillWeight
 
+-- 01, "Costs": for the spill maximum
 abbrev pub maxWeight : Float → Float → Float
 maxWeight a b = cond (lt a b) b a
 
+-- 01, "Costs": "spill maximum"
 unfoldable pub greatestSpill : Job → List ℕ → Float
 greatestSpill j vs = foldl (λ w v. maxWeight w (spillWeight j v)) zeroWeight vs
 
--- "compares a pair, preference sum first, spill maximum second"
+-- 01, "Costs": "compares a pair, preference sum first, spill maximum second"
 abbrev pub cheaper : EvictCost → EvictCost → Bool
 cheaper a b =
     lt (a .«preference_weight») (b .«preference_weight»)
     || (eq (a .«preference_weight») (b .«preference_weight») && lt (a .«spill_weight») (b .«spill_weight»))
 
--- "a holder of nonzero weight counts once", at its first report; adding a weight of 0 again changes nothing
+-- 01, "Costs": "a holder of nonzero weight counts once", at its first report; adding a weight of 0 again changes nothing
 unfoldable pub costOf : Job → State → List Interference → EvictCost
 costOf j s rs =
     let vs = firsts [] (holders rs) in
@@ -69,36 +74,38 @@ costOf j s rs =
 
 -- ---- `try_evict`
 
--- "A nonzero-weight candidate with the flag off may evict a holder of any spill weight, every other only strictly smaller ones."
+-- 01, "Costs": "A nonzero-weight candidate with the flag off may evict a holder of any spill weight, every other only strictly smaller ones."
 abbrev pub allowed : Job → State → ℕ → CandidateReg → EvictCost → Bool
 allowed j s v c k = (not (eq (c .«preference_weight») zeroWeight) && not (flag s v)) || lt (k .«spill_weight») (spillWeight j v)
 
+-- 01, "Costs": the candidate that `try_evict` settles on, and its cost
 pub record Eviction : Type 0 where
   pub to : CandidateReg
   pub cost : EvictCost
 
+-- 01, "Costs": an infinity
 abbrev pub infinite : Float
 infinite = ofBits binary32 0x7F80_0000
 
--- "two infinities never"
+-- 01, "Costs": "two infinities never"
 abbrev pub bestCost : Option Eviction → EvictCost
 bestCost none = record { «preference_weight» = infinite; «spill_weight» = infinite }
 bestCost (some e) = e .cost
 
--- the candidate against the best so far
+-- 01, "Costs": the candidate against the best so far
 unfoldable pub better : Job → State → ℕ → Option Eviction → CandidateReg → Option Eviction
 better j s v best c =
     let rs = checkOf j s v (c .reg) in
     let k = costOf j s rs in
     cond (not (ruledOut rs) && (allowed j s v c k && cheaper k (bestCost best))) (some (record { to = c; cost = k })) best
 
--- "The least pair wins, the first on ties"
+-- 01, "Costs": "The least pair wins, the first on ties"
 unfoldable pub tryEvict : Job → State → ℕ → List CandidateReg → Option Eviction
 tryEvict j s v cs = foldl (better j s v) none cs
 
 -- ---- `try_evict_for_preferred_reg`
 
--- "the first hinted candidate heavier than the clear one whose holders' weights, added at every report, stay below its own"
+-- 01, "Costs": "the first hinted candidate heavier than the clear one whose holders' weights, added at every report, stay below its own"
 unfoldable pub preferred : Job → State → ℕ → CandidateReg → CandidateReg → Bool
 preferred j s v clear c =
     let rs = checkOf j s v (c .reg) in

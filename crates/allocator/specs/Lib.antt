@@ -8,6 +8,7 @@ pub mod Layout
 pub mod Calls
 pub mod Holding
 pub mod Demand
+pub mod Corollaries
 pub mod Reached
 pub mod Sheet
 pub mod Script

@@ -8,6 +8,7 @@ use Rattle.job.specs.Load.{Bytes, loaded}
 use Rattle.allocator.specs.State.{State}
 use Rattle.allocator.specs.Calls.{load, Call, afterAll}
 
+-- 01, "Order": "a state reached from loading by calls, runs among them"
 pub record Reached (j : Job) (s : State) : Type 0 where
   -- the sizes of what loading was lent, and the job's bytes
   pub lent : List ℕ

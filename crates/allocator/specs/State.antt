@@ -1,7 +1,7 @@
 -- What the rules keep: the table, who holds which register, who is left over, flags, queue stages, last registers; and the records derived from
 -- it (document 01, "Where the Rust's forms give way": `Assignment`). Assumes nothing.
 use Prim.Native.Nat.{ℕ}
-use mathlib.Core.List.{List, [], _∷_, map}
+use mathlib.Core.List.{List, map}
 use mathlib.Core.Option.{Option, none, some}
 use mathlib.Core.Bool.{Bool, true, false, not, _&&_, _||_}
 use lib.Ieee.{Float}
@@ -18,8 +18,8 @@ pub use Rattle.allocator.specs.declared.CandidateReg.{CandidateReg}
 pub use Rattle.allocator.specs.declared.Stage.{Stage}
 pub use Rattle.allocator.specs.declared.Stage.the-variants.{Evict, Split}
 
--- `last` goes by set, the other lists by number: the register held, with the weight that it is held with; left over; the evicted-for-preference
--- flag; the stage queued at
+-- 01, "The rules", what they keep: `last` goes by set, the other lists by number: the register held, with the weight that it is held with; left over;
+-- the evicted-for-preference flag; the stage queued at
 pub record State : Type 0 where
   pub table : Table
   pub held : List (Option CandidateReg)
@@ -28,7 +28,7 @@ pub record State : Type 0 where
   pub queued : List (Option Stage)
   pub last : List (Option ℕ)
 
--- as loading leaves it: "Loading queues all at Evict", flags off
+-- 01, "Queue": as loading leaves it: "Loading queues all at Evict". "The rules": the flag is "off on loading"
 unfoldable pub freshState : Job → State
 freshState j =
     record {
@@ -42,47 +42,54 @@ freshState j =
 
 -- ---- reading a state
 
+-- 01, "Costs": what v holds, and with which weight
 abbrev pub heldBy : State → ℕ → Option CandidateReg
 heldBy s v = getD (s .held) v none
 
+-- 01, "A dequeue": v was left over
 abbrev pub isLeftOver : State → ℕ → Bool
 isLeftOver s v = getD (s .leftOver) v false
 
+-- 01, "A dequeue": the evicted-for-preference flag of v
 abbrev pub flag : State → ℕ → Bool
 flag s v = getD (s .flags) v false
 
+-- 01, "Candidates": "the register last given to a member of its set"
 abbrev pub lastGiven : Job → State → ℕ → Option ℕ
 lastGiven j s v = getD (s .last) (virtReg j v .valueSet) none
 
--- neither holding a register nor left over
+-- 01, "What the stage answers", 13: neither holding a register nor left over
 abbrev pub isUnassigned : State → ℕ → Bool
 isUnassigned s v = not (isSome (heldBy s v)) && not (isLeftOver s v)
 
--- the preference weight of what v holds
+-- 01, "Costs": the preference weight of what v holds
 abbrev pub weightOf : Option CandidateReg → Float
 weightOf none = zeroWeight
 weightOf (some c) = c .«preference_weight»
 
--- the check of v's segments on the register r: "Callers below take the short form"
+-- 01, "Check": of v's segments on the register r. "Callers below take the short form."
 unfoldable pub checkOf : Job → State → ℕ → ℕ → List Interference
 checkOf j s v r = check false (j .fixed) (s .table) (unitMap j r) (segmentsOf j v)
 
 -- ---- records
 
+-- 01, "Where the Rust's forms give way", `Assignment`: of left over, flag and what is held; left over is "marked `Dead`" ("A dequeue")
 abbrev pub assignment : Bool → Bool → Option CandidateReg → Assignment
 assignment true f h = Dead
 assignment false f none = Unassigned f
 assignment false f (some c) = Assigned f (c .reg) (c .«preference_weight»)
 
+-- 01, "Where the Rust's forms give way": the record of v
 unfoldable pub recordOf : State → ℕ → Assignment
 recordOf s v = assignment (isLeftOver s v) (flag s v) (heldBy s v)
 
+-- 01, "Where the Rust's forms give way": "The 512 records"
 unfoldable pub records : State → List Assignment
 records s = map (recordOf s) (count 0 512)
 
 -- ---- the state's changes
 
--- v takes the register of c with its weight, off the queue; where f is, its flag turns on
+-- 01, "A dequeue" and "The rules": v takes the register of c with its weight, off the queue; where f is, its flag turns on
 unfoldable pub give : Job → ℕ → CandidateReg → Bool → State → State
 give j v c f s =
     record {
@@ -94,7 +101,7 @@ give j v c f s =
       last = set (s .last) (virtReg j v .valueSet) (some (c .reg));
     }
 
--- v, which holds the register r, loses it: it keeps its flag and is queued at stage Evict
+-- 01, "The rules": v, which holds the register r, loses it: "an evicted number keeps its flag and is queued at stage Evict"
 unfoldable pub lose : Job → ℕ → ℕ → State → State
 lose j v r s =
     record {
@@ -106,19 +113,20 @@ lose j v r s =
       last = s .last;
     }
 
+-- 01, "Evicting": of v, if it holds a register
 abbrev pub loseHeld : Job → ℕ → State → Option CandidateReg → State
 loseHeld j v s none = s
 loseHeld j v s (some c) = lose j v (c .reg) s
 
--- v is evicted, if it holds a register
+-- 01, "Evicting": v is evicted, if it holds a register
 unfoldable pub evictNumber : Job → State → ℕ → State
 evictNumber j s v = loseHeld j v s (heldBy s v)
 
--- v is queued so, or taken off the queue
+-- 01, "A dequeue": v is queued so, or taken off the queue
 unfoldable pub requeue : ℕ → Option Stage → State → State
 requeue v q s = record { table = s .table; held = s .held; leftOver = s .leftOver; flags = s .flags; queued = set (s .queued) v q; last = s .last }
 
--- v is left over, off the queue
+-- 01, "A dequeue": v is left over, off the queue
 unfoldable pub leave : ℕ → State → State
 leave v s =
     record { table = s .table; held = s .held; leftOver = set (s .leftOver) v true; flags = s .flags; queued = set (s .queued) v none; last = s .last }

@@ -1,8 +1,8 @@
 // The allocator: candidates, queue, eviction, runs and direct calls (`allocator/mod.rs`, `order.rs`, `queue.rs`, `evict.rs`).
 // These are the types that the definitions and contracts speak of.
 
-// How a virtual register stands. The flag is on once it has evicted another for its preference; the weight says how much it likes the
-// register that it has.
+// 01, "Where the Rust's forms give way": how a virtual register stands. The flag is on once it has evicted another for its preference; the
+// weight says how much it likes the register that it has.
 pub enum Assignment {
     Assigned {
         evicted_for_preference: bool,
@@ -15,25 +15,25 @@ pub enum Assignment {
     Dead,
 }
 
-// A register to try, with the cost if it is not chosen.
+// 01, "Candidates": a register to try, with the cost if it is not chosen.
 pub struct CandidateReg {
     pub reg: u8,
     pub preference_weight: f32,
 }
 
-// The sum of the preference weights, and the greatest spill weight, of those whom a candidate would evict. Compared in this order.
+// 01, "Costs": the sum of the preference weights, and the greatest spill weight, of those whom a candidate would evict. Compared in this order.
 pub struct EvictCost {
     pub preference_weight: f32,
     pub spill_weight: f32,
 }
 
-// In which stage a number is queued.
+// 01, "Queue": in which stage a number is queued.
 pub enum Stage {
     Evict,
     Split,
 }
 
-// How a run ended.
+// 01, "What the stage answers": how a run ended.
 pub enum Ending {
     Done,
     Spent,

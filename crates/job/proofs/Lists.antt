@@ -10,7 +10,7 @@ use lib.Dec.{T}
 use lib.ListN.{length, getD, length-append}
 use Rattle.reg_matrix.specs.Lists.{filter, any, anyPair, concatMap, foldl}
 use Rattle.reg_matrix.proofs.Tests.{or-left, or-right}
-use Rattle.reg_matrix.proofs.Members.{_∈_, any-in}
+use Rattle.reg_matrix.proofs.Members.{_∈_, any-in, getD-in}
 
 module _ {A : Type 0} where
   abbrev pub Each : (A → Type 0) → List A → Type 0
@@ -75,11 +75,6 @@ module _ {A B : Type 0} (f : A → List B) where
 -- ---- by place
 
 module _ {A : Type 0} where
-  pub getD-in : (xs : List A) (i : ℕ) (d : A) → i < length xs → getD xs i d ∈ xs
-  getD-in [] i d h = absurd (omega arith)
-  getD-in (x ∷ xs) zero d h = List·Memᴰ·head refl
-  getD-in (x ∷ xs) (suc i) d h = List·Memᴰ·tail (getD-in xs i d (omega arith))
-
   pub a-member : (xs : List A) → 0 < length xs → (x : A) × (x ∈ xs)
   a-member [] h = absurd (omega arith)
   a-member (x ∷ xs) h = (x, List·Memᴰ·head refl)

@@ -16,7 +16,7 @@ use Rattle.reg_matrix.specs.declared.Entry.{Entry}
 use Rattle.reg_matrix.specs.declared.Reservation.{Reservation}
 use Rattle.reg_matrix.specs.declared.Reservation.the-variants.{Held, FixedUse, FixedDef}
 use Rattle.reg_matrix.proofs.Tests.{both, both-in, or-left, or-right, passes-or-not, eqb-in, less-equal-greater}
-use Rattle.reg_matrix.proofs.Members.{_∈_, filter-out, any-in}
+use Rattle.reg_matrix.proofs.Members.{_∈_, filter-out, any-in, getD-in}
 use Rattle.reg_matrix.proofs.Sorted.{Parted, ordered-by-ends}
 use Rattle.reg_matrix.proofs.Cells.{Inside, overlaps→}
 use Rattle.reg_matrix.proofs.Chains.{Sound, Chain}
@@ -26,7 +26,7 @@ use Rattle.job.specs.Model.{VirtReg, Job, noVirtReg, virtReg, segmentsOf
 use Rattle.job.specs.Layout.{allHints, allSegments}
 use Rattle.job.specs.Load.{Bytes, hintsIn, segmentsIn, strictlyInside, useOfValue, cuts, twin, mixedSet, cutUse, loaded, loadWith}
 use Rattle.job.proofs.Premises.{Premises, IsNumber, IsReg, UnitsWithin}
-use Rattle.job.proofs.Lists.{Each, Pairs, sum-length, getD-in, a-member, pair-in}
+use Rattle.job.proofs.Lists.{Each, Pairs, sum-length, a-member, pair-in}
 use Rattle.job.proofs.Units.{units-length, a-unit, same-units, same-self}
 use Rattle.job.proofs.Weights.{neither}
 use Rattle.job.proofs.Fields.{GoodMap, GoodEntry, Follows, GoodFixed, Ahead, GoodVirtReg, Tested, loads-tested}

@@ -18,19 +18,14 @@ use Rattle.reg_matrix.proofs.Chains.{Sound}
 use Rattle.reg_matrix.proofs.Clear.{Segments}
 use Rattle.job.specs.declared.Hint.{Hint}
 use Rattle.job.specs.Model.{VirtReg, Job, virtReg, segmentsOf, unitMap}
+pub use Rattle.job.specs.Model.{Plain}
 use Rattle.job.specs.Layout.{allHints, allSegments}
 
 -- every unit of the first map is one of the second
 abbrev pub UnitsWithin : ℕ → ℕ → Type 0
 UnitsWithin m n = (u : ℕ) → u ∈ unitsOf m → u ∈ unitsOf n
 
--- no NaN, and no sign
-abbrev pub Plain : Float → Type 0
-Plain nan = ⊥
-Plain (inf n) = n ≡ false
-Plain (fin n m e) = n ≡ false
-
--- and not infinite
+-- no NaN, no sign, not infinite
 abbrev pub Finite : Float → Type 0
 Finite nan = ⊥
 Finite (inf n) = ⊥

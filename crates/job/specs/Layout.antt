@@ -1,5 +1,5 @@
--- How a loaded job stands in lent numbers: one buffer for each field, the virtual registers' by number. What is past the last is zero, but for the
--- fixed uses (see reg_matrix). A longer buffer keeps its tail. Assumes nothing.
+-- How a loaded job stands in lent numbers (document 01, "The job", "Limits"): one buffer for each field, the virtual registers' by number. What is
+-- past the last is zero, but for the fixed uses (see reg_matrix). A longer buffer keeps its tail. Assumes nothing.
 use Prim.Native.Nat.{ℕ, _+_}
 use mathlib.Core.List.{List, [], _∷_, _++_, map}
 use mathlib.Core.Option.{Option, none, some}
@@ -15,12 +15,13 @@ use Rattle.job.specs.declared.Probe.the-variants.{Over, NoProbe}
 use Rattle.job.specs.declared.JobHeader.{JobHeader}
 use Rattle.job.specs.Model.{Job, VirtReg, zeroWeight}
 
--- where each begins, from `at` on, and where the last ends
 module _ {A : Type 0} where
+  -- layout: where each list of a concatenation begins, from `at` on, and where the last ends
   unfoldable pub startsFrom : (A → ℕ) → ℕ → List A → List ℕ
   startsFrom size at [] = at ∷ []
   startsFrom size at (x ∷ xs) = at ∷ startsFrom size (at + size x) xs
 
+-- layout: 01, "The job", a buffer for each field
 pub record JobBuffers : Type 0 where
   pub regs : List ℕ
   pub classStarts : List ℕ
@@ -38,20 +39,23 @@ pub record JobBuffers : Type 0 where
   pub tos : List ℕ
   pub values : List ℕ
 
--- the buffers' sizes, in that order (document 01, "Limits")
+-- layout: 01, "Limits": the buffers' sizes, in that order
 abbrev pub jobLimits : List ℕ
 jobLimits = 64 ∷ 17 ∷ 1024 ∷ maxFixed ∷ 512 ∷ 512 ∷ 512 ∷ 512 ∷ 513 ∷ 1024 ∷ 1024 ∷ 513 ∷ 512 ∷ 512 ∷ 512 ∷ []
 
--- what loading a job is lent: these and the table
+-- layout: 01, "Limits": what loading a job is lent, these and the table
 abbrev pub loadLimits : List ℕ
 loadLimits = jobLimits ++ tableLimits
 
+-- layout: the hints of all virtual registers, by number
 abbrev pub allHints : Job → List Hint
 allHints j = concatMap (λ v. v .hints) (j .virtRegs)
 
+-- layout: the segments of all virtual registers, by number
 abbrev pub allSegments : Job → List ValueSegment
 allSegments j = concatMap (λ v. v .segments) (j .virtRegs)
 
+-- layout: the content of each buffer
 unfoldable pub jobBuffers : Job → JobBuffers
 jobBuffers j =
     record {
@@ -74,10 +78,12 @@ jobBuffers j =
 
 -- ---- what goes by value
 
+-- layout: 01, "The job", the probe range, by value
 abbrev pub probeOf : Option ValueSegment → Probe
 probeOf none = NoProbe
 probeOf (some s) = Over (s .from) (s .to)
 
+-- layout: 01, "The job", the header's counts, probe range and budget, by value
 unfoldable pub headerOf : Job → JobHeader
 headerOf j =
     record { regs = length (j .regs); classes = length (j .classes); «virt_regs» = length (j .virtRegs); probe = probeOf (j .probe); budget = j .budget }

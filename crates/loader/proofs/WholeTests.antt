@@ -13,7 +13,7 @@ use borrow.Author.Tests.{eq-eqb, ne-eqb, eqb-true, eqb-false}
 use Rattle.reg_matrix.specs.Lists.{any, anyPair, count, concatMap, bit, same}
 use Rattle.reg_matrix.specs.Table.{unitsOf}
 use Rattle.reg_matrix.proofs.Tests.{same-test, both, eqb-in}
-use Rattle.reg_matrix.proofs.Members.{_∈_, unitsOf-in, unitsOf-out}
+use Rattle.reg_matrix.proofs.Members.{_∈_, getD-in, unitsOf-in, unitsOf-out}
 use Rattle.reg_matrix.specs.declared.ValueSegment.{ValueSegment}
 use Rattle.reg_matrix.specs.declared.Entry.{Entry}
 use Rattle.reg_matrix.specs.declared.Reservation.{Reservation}
@@ -25,7 +25,6 @@ use Rattle.loader.specs.Tests.{equalAt, memberTwice, classesDiffer, cros
 use Rattle.loader.proofs.Stores.{getD-any}
 use Rattle.loader.proofs.Places.{anys-at, pairs-at, pair-at}
 use Rattle.job.proofs.Units.{same-self}
-use Rattle.job.proofs.Lists.{getD-in}
 use Rattle.loader.proofs.Tables.{starts-length}
 use Rattle.loader.proofs.Layouts.{start-is, next-start, item-at, item-below}
 

@@ -45,7 +45,7 @@ pub record SmallUse (e : Entry) : Type 0 where
 
 -- ---- and back
 
-fits-word : (r : Reservation) → SmallReservation r → reservationWord r < 2 ^ 32
+pub fits-word : (r : Reservation) → SmallReservation r → reservationWord r < 2 ^ 32
 fits-word FixedDef h = omega arith
 fits-word (FixedUse x) h = omega arith
 fits-word (Held v NoIndex) h = omega arith

@@ -12,8 +12,8 @@ use lib.Dec.{T, ltb, eqb, ltb→lt, eqb→eq}
 use lib.ListN.{length, drop, getD, replicate, length-append, length-map}
 use lib.Seq.{drop-drop, getD-drop, drop-append-add, drop-append-le}
 use borrow.Author.Tests.{lt-ltb, eq-eqb, ne-eqb, ltb-false}
-use Rattle.reg_matrix.specs.Lists.{keep, filter, first, foldl, concatMap, count, padded}
-use Rattle.reg_matrix.specs.Table.{Table, isUse, before, putBefore, fixedUses, insert, insertAll}
+use Rattle.reg_matrix.specs.Lists.{keep, filter, first, putBefore, insertBy, foldl, concatMap, count, padded}
+use Rattle.reg_matrix.specs.Table.{Table, isUse, before, fixedUses, insert, insertAll}
 use Rattle.reg_matrix.specs.Assign.{fixedIndex, entryOf, heldBy, usesFrom, putBack, evictSegment}
 use Rattle.reg_matrix.specs.Layout.{maxEntries, maxFixed, greatest, endWord, restWord, endWords, restWords, reservationWord, indexWord, useValue, useWord, useWords}
 use Rattle.matrix.specs.Search.{placeOf, below}
@@ -38,7 +38,7 @@ use Rattle.matrix.proofs.Standing.{below-step, below-past, below-none, 
 -- ---- what stands before an insertion is sorted if what stands after it is
 
 pub sorted-before : (e : Entry) (t : Table) → Sorted (insert e t) → Sorted t
-unfolding insert
+unfolding insert insertBy
 sorted-before e [] h = tt
 sorted-before e (x ∷ t) h = go (before e x) h (λ k. sorted-before e t k)
   where

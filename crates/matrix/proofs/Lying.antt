@@ -20,6 +20,7 @@ use Rattle.reg_matrix.specs.declared.Entry.{Entry}
 use Rattle.reg_matrix.proofs.Members.{_∈_, filter-none, fixedUses-out, concat-out}
 use Rattle.reg_matrix.proofs.Cells.{Nonempty}
 use Rattle.reg_matrix.proofs.Chains.{Chain, Sound, uses-nonempty}
+use Rattle.matrix.proofs.Decode.{rises-append}
 use Rattle.matrix.proofs.Standing.{below-step, below-past, below-none, below-all, below-append, found-padded}
 
 -- what loading tested of a reservation: its numbers are small, and a use ends two points on
@@ -41,17 +42,6 @@ allUses fixed = concatMap (fixedUses fixed) (count 0 64)
 pub record UsesLie (fixed : List Entry) (ut uses : List ℕ) : Type 0 where
   pub few : length (allUses fixed) ≤ maxFixed
   pub are : uses ≡ useWords fixed ++ ut
-
-pub rises-append : (xs ys : List ℕ) → Rises xs → Rises ys → ((x : ℕ) → x ∈ xs → (y : ℕ) → y ∈ ys → x ≤ y) → Rises (xs ++ ys)
-rises-append [] ys r q h = q
-rises-append (x ∷ xs) ys r q h = (first, rises-append xs ys (r .1) q (λ a m. h a (List·Memᴰ·tail m)))
-  where
-    go : (y : ℕ) → (y ∈ xs) ⊎ (y ∈ ys) → x ≤ y
-    go y (inl m) = r .0 y m
-    go y (inr m) = h x (List·Memᴰ·head refl) y m
-
-    first : (y : ℕ) → y ∈ xs ++ ys → x ≤ y
-    first y m = go y (List·Memᴰ·append-cases xs m)
 
 module _ (fixed : List Entry) (sd : Sound fixed) (sm : AllSmall fixed) where
   -- a use of the unit has its number between the unit's key and the next unit's
@@ -100,7 +90,7 @@ module _ (fixed : List Entry) (sd : Sound fixed) (sm : AllSmall fixed) where
       (unit-rises k (fixedUses fixed k) (uses-nonempty fixed sd k) (sd .chain k)
       (λ e m. let l = fixedUses-out fixed k e m in (l .1, sm e (l .0))))
       (all-rise (suc k) n)
-      (λ x m y o. omega (arith, use-of-unit k x m .high, use-of-later (suc k) n y o)))
+      (λ x y m o. omega (arith, use-of-unit k x m .high, use-of-later (suc k) n y o)))
 
   all-small : (x : ℕ) → x ∈ map useWord (allUses fixed) → x < greatest
   all-small x m =

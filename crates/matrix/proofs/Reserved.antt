@@ -24,7 +24,7 @@ use Rattle.reg_matrix.proofs.Tests.{less-equal-greater}
 use Rattle.reg_matrix.proofs.Members.{_∈_, concat-none, count-out}
 use Rattle.reg_matrix.proofs.Sorted.{Sorted}
 use Rattle.reg_matrix.proofs.Chains.{Sound}
-use Rattle.reg_matrix.proofs.Places.{concat-same}
+use Rattle.reg_matrix.proofs.Places.{filter-append, concat-same}
 use Rattle.matrix.proofs.Shifts.{filled-is}
 use Rattle.matrix.proofs.Standing.{SmallEnds, Stands, room-inserted, insert-stands}
 use Rattle.matrix.proofs.Lying.{SmallFixed, AllSmall, allUses, UsesLie, first-use, use-place, use-count}
@@ -56,12 +56,7 @@ clear-lies us h =
 
 filter-last : (p : Entry → Bool) (xs : List Entry) (e : Entry) → filter p (xs ++ e ∷ []) ≡ filter p xs ++ keep (p e) e []
 unfolding filter
-filter-last p [] e = refl
-filter-last p (x ∷ xs) e = go (p x) (filter-last p xs e)
-  where
-    go : (b : Bool) → filter p (xs ++ e ∷ []) ≡ filter p xs ++ keep (p e) e [] → keep b x (filter p (xs ++ e ∷ [])) ≡ keep b x (filter p xs) ++ keep (p e) e []
-    go true ih = ap (λ l. x ∷ l) ih
-    go false ih = ih
+filter-last p xs e = filter-append p xs (e ∷ [])
 
 module _ (fixed : List Entry) (e : Entry) where
   abbrev more : List Entry

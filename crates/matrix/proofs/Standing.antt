@@ -11,16 +11,18 @@ use lib.Dec.{T, ltb, ltb→lt, lt→ltb}
 use lib.ListN.{length, take, drop, replicate, length-append, length-map, length-replicate, length-take, length-drop}
 use lib.Seq.{take-at, take-nil, drop-nil}
 use borrow.Author.Tests.{lt-ltb, le-ltb, ltb-true, ltb-false}
-use Rattle.reg_matrix.specs.Lists.{keep, filter, padded}
-use Rattle.reg_matrix.specs.Table.{Table, before, putBefore, insert}
+use Rattle.reg_matrix.specs.Lists.{keep, filter, putBefore, insertBy, padded}
+use Rattle.reg_matrix.specs.Table.{Table, before, insert}
 use Rattle.reg_matrix.specs.Layout.{maxEntries, greatest, endWord, restWord, endWords, restWords}
 use Rattle.matrix.specs.Search.{placeOf, Rises, below}
 use Rattle.matrix.specs.Moves.{Words, entries, inserted, removed, inserting, removing, removingRun}
 use Rattle.reg_matrix.specs.declared.Entry.{Entry}
+use Rattle.reg_matrix.proofs.Places.{insert-longer}
 use Rattle.reg_matrix.proofs.Tests.{same-test}
 use Rattle.reg_matrix.proofs.Members.{_∈_}
 use Rattle.reg_matrix.proofs.Sorted.{Before, before→, →before, Below, below-out, below-in, Sorted}
 use Rattle.matrix.proofs.Halves.{below-length, place-searched}
+pub use Rattle.matrix.proofs.Halves.{none-below as below-none}
 use Rattle.matrix.proofs.Shifts.{inserted-room, removed-room}
 
 -- ---- numbers that rise, and what is behind them
@@ -52,11 +54,6 @@ below-step key x xs h = rw (lt-ltb x key h)
 pub below-past : (key x : ℕ) (xs : List ℕ) → key ≤ x → below key (x ∷ xs) ≡ below key xs
 unfolding below filter
 below-past key x xs h = rw (le-ltb x key h)
-
-pub below-none : (key : ℕ) (xs : List ℕ) → ((y : ℕ) → y ∈ xs → key ≤ y) → below key xs ≡ 0
-unfolding below filter
-below-none key [] h = refl
-below-none key (x ∷ xs) h = rw (le-ltb x key (h x (List·Memᴰ·head refl))) (below-none key xs (λ y m. h y (List·Memᴰ·tail m)))
 
 pub below-all : (key : ℕ) (xs : List ℕ) → ((y : ℕ) → y ∈ xs → y < key) → below key xs ≡ length xs
 unfolding below filter
@@ -159,7 +156,7 @@ pub place-within : (key : ℕ) (t : Table) → below key (map endWord t) ≤ len
 place-within key t = let l = length-map t endWord in omega (arith, below-length key (map endWord t), l)
 
 pub insert-place : (e : Entry) (t : Table) → Sorted t → SmallEnd e → SmallEnds t → insert e t ≡ take (below (endWord e + 1) (map endWord t)) t ++ e ∷ drop (below (endWord e + 1) (map endWord t)) t
-unfolding insert
+unfolding insert insertBy
 insert-place e [] so se sm = rw (take-nil (below (endWord e + 1) []), drop-nil (below (endWord e + 1) []))
 insert-place e (x ∷ t) so se sm = go (ltb (endWord e) (endWord x)) refl (insert-place e t (so .1) se (λ y m. sm y (List·Memᴰ·tail m)))
   where
@@ -190,12 +187,7 @@ insert-place e (x ∷ t) so se sm = go (ltb (endWord e) (endWord x)) refl (inser
 
 pub insert-length : (e : Entry) (t : Table) → length (insert e t) ≡ suc (length t)
 unfolding insert
-insert-length e [] = refl
-insert-length e (x ∷ t) = go (before e x) (insert-length e t)
-  where
-    go : (b : Bool) → length (insert e t) ≡ suc (length t) → length (putBefore b e x t (insert e t)) ≡ suc (suc (length t))
-    go true ih = refl
-    go false ih = ap suc ih
+insert-length e t = insert-longer before e t
 
 -- one of the slices: size places, and d is what fills it up
 module _ (size : ℕ) (f : Entry → ℕ) (d : ℕ) (t : Table) (behind : List ℕ) where

@@ -5,20 +5,17 @@ use native.Mathlib.Omega.{arith}
 use mathlib.Core.Path.{_≡_, refl, sym, ap, _∙_, subst}
 use mathlib.Core.Logic.{_⊎_, inl, inr}
 use mathlib.Core.Option.{some}
-use mathlib.Core.List.{List, [], _∷_, _++_, List·Memᴰ, List·Memᴰ·head, List·Memᴰ·tail, List·Memᴰ·cases-cons, Memᴰ·append-left, Memᴰ·append-right, List·Memᴰ·append-cases}
+use mathlib.Core.List.{List, [], _∷_, _++_, List·Memᴰ·head, List·Memᴰ·tail, List·Memᴰ·cases-cons, Memᴰ·append-left, Memᴰ·append-right, List·Memᴰ·append-cases}
 use mathlib.Core.Bool.{Bool, true, false, _&&_, _||_}
 use lib.Dec.{T, eqb, eqb→eq}
-use lib.ListN.{drop}
+use lib.ListN.{length, getD, drop}
 use Rattle.reg_matrix.specs.Lists.{keep, filter, any, first, orElse, concatMap, count, bit}
+pub use Rattle.reg_matrix.specs.Lists.{_∈_}
 use Rattle.reg_matrix.specs.Table.{Table, unitsOf, isUse, fixedUses, onUnit}
 use Rattle.reg_matrix.specs.declared.Entry.{Entry}
 use Rattle.reg_matrix.proofs.Tests.{both, both-in, or-left, or-right, eqb-in, less-equal-greater}
 
 module _ {A : Type 0} where
-  infix 50 _∈_
-  abbrev pub _∈_ : A → List A → Type 0
-  e ∈ xs = List·Memᴰ e xs
-
   -- ---- filter
 
   keep-out : {e x : A} {xs : List A} (b : Bool) → e ∈ keep b x xs → (T b × (e ≡ x)) ⊎ (e ∈ xs)
@@ -94,6 +91,13 @@ module _ {A : Type 0} where
   drop-out zero xs m = m
   drop-out (suc n) [] m = m
   drop-out (suc n) (x ∷ xs) m = List·Memᴰ·tail (drop-out n xs m)
+
+  -- ---- by place
+
+  pub getD-in : (xs : List A) (i : ℕ) (d : A) → i < length xs → getD xs i d ∈ xs
+  getD-in [] i d h = absurd (omega arith)
+  getD-in (x ∷ xs) zero d h = List·Memᴰ·head refl
+  getD-in (x ∷ xs) (suc i) d h = List·Memᴰ·tail (getD-in xs i d (omega arith))
 
   -- ---- nothing
 

@@ -8,7 +8,7 @@ use mathlib.Core.List.{List, [], _∷_, _++_, map, append-assoc, List·Memᴰ·h
 use mathlib.Core.Bool.{Bool, true, false}
 use lib.ListN.{length, getD, replicate, length-append, length-replicate, List·getD-append, List·getD-eq-default}
 use lib.Seq.{getD-append-add}
-use Rattle.reg_matrix.specs.Lists.{keep, filter, concatMap, count, padded}
+use Rattle.reg_matrix.specs.Lists.{keep, filter, concatMap, count, padded, putBefore, insertBy}
 use Rattle.reg_matrix.proofs.Members.{_∈_}
 
 module _ {A : Type 0} where
@@ -38,6 +38,17 @@ module _ {A : Type 0} where
           ∙ getD-append-add xs (replicate (n - length xs) d) (i - length xs) d
           ∙ replicate-default (n - length xs) (i - length xs) d
           ∙ sym (List·getD-eq-default xs d (omega arith))
+
+  -- ---- one more in a sorted list
+
+  pub insert-longer : (before : A → A → Bool) (e : A) (xs : List A) → length (insertBy before e xs) ≡ suc (length xs)
+  unfolding insertBy
+  insert-longer before e [] = refl
+  insert-longer before e (x ∷ xs) = go (before e x) (insert-longer before e xs)
+    where
+      go : (b : Bool) → length (insertBy before e xs) ≡ suc (length xs) → length (putBefore b e x xs (insertBy before e xs)) ≡ suc (suc (length xs))
+      go true ih = refl
+      go false ih = ap suc ih
 
   -- ---- a function of the numbers, as a list
 

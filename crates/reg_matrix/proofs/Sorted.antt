@@ -7,8 +7,8 @@ use mathlib.Core.Logic.{_⊎_, inl, inr, ⊎-swap}
 use mathlib.Core.List.{List, [], _∷_, List·Memᴰ·head, List·Memᴰ·tail, List·Memᴰ·cases-cons}
 use mathlib.Core.Bool.{Bool, true, false, _&&_}
 use lib.Dec.{T, ltb, eqb, ltb→lt, lt→ltb, eqb→eq}
-use Rattle.reg_matrix.specs.Lists.{keep, filter, foldl}
-use Rattle.reg_matrix.specs.Table.{Table, before, putBefore, insert, insertAll, onUnit}
+use Rattle.reg_matrix.specs.Lists.{keep, filter, putBefore, insertBy, foldl}
+use Rattle.reg_matrix.specs.Table.{Table, before, insert, insertAll, onUnit}
 use Rattle.reg_matrix.specs.declared.Entry.{Entry}
 use Rattle.reg_matrix.proofs.Tests.{both, both-in, either, or-left, or-right, eqb-in, less-equal-greater}
 use Rattle.reg_matrix.proofs.Members.{_∈_, filter-out}
@@ -159,7 +159,7 @@ onUnit-sorted u t h = sorted-filter (λ (e : Entry). eqb (e .unit) u) t h
 -- ---- insert
 
 pub insert-out : {e x : Entry} (t : List Entry) → e ∈ insert x t → (e ≡ x) ⊎ (e ∈ t)
-unfolding insert
+unfolding insert insertBy
 insert-out [] m = List·Memᴰ·cases-cons m
 insert-out {e} {x} (y ∷ ys) m = pick (before x y) m (λ n. insert-out ys n)
   where
@@ -173,7 +173,7 @@ insert-out {e} {x} (y ∷ ys) m = pick (before x y) m (λ n. insert-out ys n)
     pick false (List·Memᴰ·tail n) ih = past (ih n)
 
 pub insert-here : (x : Entry) (t : List Entry) → x ∈ insert x t
-unfolding insert
+unfolding insert insertBy
 insert-here x [] = List·Memᴰ·head refl
 insert-here x (y ∷ ys) = pick (before x y) (insert-here x ys)
   where
@@ -182,7 +182,7 @@ insert-here x (y ∷ ys) = pick (before x y) (insert-here x ys)
     pick false ih = List·Memᴰ·tail ih
 
 pub insert-there : (x : Entry) {e : Entry} {t : List Entry} → e ∈ t → e ∈ insert x t
-unfolding insert
+unfolding insert insertBy
 insert-there x {e} (List·Memᴰ·head {x = y} {xs = ys} q) = pick (before x y)
   where
     pick : (b : Bool) → e ∈ putBefore b x y ys (insert x ys)
@@ -195,7 +195,7 @@ insert-there x {e} (List·Memᴰ·tail {x = y} {xs = ys} m) = pick (before x y) 
     pick false ih = List·Memᴰ·tail ih
 
 pub sorted-insert : (x : Entry) (t : List Entry) → OrderedTo x t → Sorted t → Sorted (insert x t)
-unfolding insert
+unfolding insert insertBy
 sorted-insert x [] a h = (tt, tt)
 sorted-insert x (y ∷ ys) a h = go (before x y) refl (sorted-insert x ys (λ e m. a e (List·Memᴰ·tail m)) (h .1))
   where

@@ -16,6 +16,7 @@ use lib.Seq.{getD-set-same, getD-set-other, set-append-left, drop-set-lt, drop-s
 use borrow.Author.Tests.{lt-ltb, le-ltb, ne-eqb, ltb-true, ltb-false}
 use Rattle.reg_matrix.specs.Lists.{count, isNil, padded}
 use Rattle.reg_matrix.proofs.Places.{replicate-default, from-zero, count-length}
+use Rattle.allocator.proofs.Records.{set-numbers}
 use Rattle.job.specs.declared.Hint.{Hint}
 use Rattle.job.specs.Model.{Job, VirtReg, noVirtReg, virtReg}
 use Rattle.job.specs.Layout.{startsFrom, jobBuffers}
@@ -485,25 +486,13 @@ module _ (j : Job) (s : State) (b : List ℕ) (size : length (s .queued) ≡ 512
       let f : ℕ → ℕ = λ u. keyWord j u (getD (s .queued) u none) in
       let g : ℕ → ℕ = λ u. keyWord j u (getD (t .queued) u none) in
       let ks = map f (count 0 512) in
+      let here-now : g v ≡ keyWord j v q = ap (keyWord j v) (ap (λ l. getD l v none) e ∙ getD-set-same (s .queued) v q none (omega arith)) in
       let k : set ks v (keyWord j v q) ≡ map g (count 0 512) =
-      ext-getD 0 (set ks v (keyWord j v q)) (map g (count 0 512)) (length-set ks v (keyWord j v q) ∙ numbers-length f ∙ sym (numbers-length g))
-      (λ i l. at-place i (omega (arith, length-set ks v (keyWord j v q), numbers-length f)) (ℕ-discrete i v)) in
+      ap (set ks v) (sym here-now)
+      ∙ sym (set-numbers f g 0 512 v h (λ u d. ap (keyWord j u) (ap (λ l. getD l u none) e ∙ getD-set-other (s .queued) v u q none d))) in
       ap (setWord v (keyWord j v q)) (sym (take-append-drop 1024 b) ∙ ap (λ x. x ++ drop 1024 b) here)
       ∙ set-words ks v (keyWord j v q) (drop 1024 b) (numbers-length f) h
       ∙ ap (λ x. (0 ∷ rounds 9 x) ++ drop 1024 b) k
-    where
-      at-place : (i : ℕ) → i < 512 → Dec (i ≡ v) → getD (set (map (λ u. keyWord j u (getD (s .queued) u none)) (count 0 512)) v (keyWord j v q)) i 0 ≡ getD (map (λ u. keyWord j u (getD (t .queued) u none)) (count 0 512)) i 0
-      at-place i l (yes d) =
-          let ks = map (λ u. keyWord j u (getD (s .queued) u none)) (count 0 512) in
-          rw d (getD-set-same ks v (keyWord j v q) 0 (omega (arith, numbers-length (λ u. keyWord j u (getD (s .queued) u none)))))
-          ∙ ap (keyWord j v) (sym (getD-set-same (s .queued) v q none (omega arith)))
-          ∙ sym (rw d (key-at (λ u. keyWord j u (getD (t .queued) u none)) 512 v h ∙ rw e))
-      at-place i l (no d) =
-          let ks = map (λ u. keyWord j u (getD (s .queued) u none)) (count 0 512) in
-          getD-set-other ks v i (keyWord j v q) 0 d
-          ∙ key-at (λ u. keyWord j u (getD (s .queued) u none)) 512 i l
-          ∙ ap (keyWord j i) (sym (getD-set-other (s .queued) v i q none d))
-          ∙ sym (key-at (λ u. keyWord j u (getD (t .queued) u none)) 512 i l ∙ rw e)
 
 -- the queue written from words that agree with the state's
 pub filled-tournament : (j : Job) (s : State) (f : ℕ → ℕ) (b : List ℕ) → 1024 ≤ length b → ((v : ℕ) → v < 512 → f v ≡ keyWord j v (getD (s .queued) v none)) → filled f b ≡ queueWords j s ++ drop 1024 b

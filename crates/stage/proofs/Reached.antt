@@ -6,7 +6,7 @@ use mathlib.Core.Path.{_≡_, refl, sym, ap, _∙_, subst}
 use mathlib.Core.Logic.{_⊎_, inl, inr}
 use mathlib.Core.List.{List, [], _∷_, _++_, map, List·Memᴰ·head}
 use mathlib.Core.Option.{none}
-use mathlib.Core.Bool.{false}
+use mathlib.Core.Bool.{Bool, false}
 use lib.ListN.{length, getD, length-map, List·getD-eq-default}
 use lib.Seq.{take-at}
 use Rattle.reg_matrix.specs.Refusals.{rangesRefusal}
@@ -18,7 +18,7 @@ use Rattle.reg_matrix.proofs.Members.{_∈_, unitsOf-out}
 use Rattle.reg_matrix.proofs.Places.{padded-length}
 use Rattle.reg_matrix.proofs.Cells.{Cell}
 use Rattle.reg_matrix.proofs.Laws.{table-size}
-use Rattle.matrix.specs.Walk.{Lent, segmentsIn}
+use Rattle.matrix.specs.Walk.{Lent, segmentsIn, entered, remaining}
 use Rattle.matrix.proofs.Starts.{passed-ranges, segments-back}
 use Rattle.matrix.proofs.Reading.{Holds, Walkable}
 use Rattle.matrix.proofs.Lying.{AllSmall, allUses}
@@ -67,7 +67,9 @@ module _ (j : Job) (s : State) (g : Good j s) where
 
   -- a check walks over it
   pub walkable : Walkable (j .fixed) (s .table)
-  walkable = matrix-walkable (j .fixed) (g .premises .sound) heldCells (s .table) (g .agrees .table) (g .premises .few-fixed) cells-fit small-fixed small-held small-holders
+  walkable =
+      matrix-walkable (j .fixed) (g .premises .sound) heldCells (s .table) (g .agrees .table) (g .premises .few-fixed) cells-fit small-fixed small-held
+      small-holders
 
   -- a register's map of units is one of 64 bits, and an unknown register's is empty
   pub small-map : (r : ℕ) → unitMap j r < 2 ^ 64
@@ -113,25 +115,47 @@ pub record LaidOut (j : Job) (s : State) (v : ℕ) (W : Lent) : Type 0 where
   pub tos : W .tos ≡ map (λ s. s .to) (segmentsOf j v)
   pub values : W .values ≡ map (λ s. s .value) (segmentsOf j v)
 
-module _ (j : Job) (s : State) (g : Good j s) (v : ℕ) (b : IsNumber j v) (W : Lent) (L : LaidOut j s v W) where
+module _ (j : Job) (s : State) (g : Good j s) (W : Lent) (et rt ut : List ℕ)
+    (ends : W .ends ≡ endWords (s .table) ++ et) (rests : W .rests ≡ restWords (s .table) ++ rt) (uses : W .uses ≡ useWords (j .fixed) ++ ut) where
   holds : Holds (j .fixed) (s .table) W
   unfolding endWords restWords useWords
   holds =
+      let ends-long = padded-length maxEntries greatest (map endWord (s .table)) (simp length-map (entries-fit j s g)) in
+      let rests-long = padded-length maxEntries 0 (map restWord (s .table)) (simp length-map (entries-fit j s g)) in
+      let uses-long = padded-length maxFixed greatest (map useWord (allUses (j .fixed))) (simp length-map (uses-fit j s g)) in
       record {
-        ends = rw (L .ends) (take-at (endWords (s .table)) (L .ends-behind) maxEntries (padded-length maxEntries greatest (map endWord (s .table)) (simp length-map (entries-fit j s g))));
-        rests = rw (L .rests) (take-at (restWords (s .table)) (L .rests-behind) maxEntries (padded-length maxEntries 0 (map restWord (s .table)) (simp length-map (entries-fit j s g))));
-        uses = rw (L .uses) (take-at (useWords (j .fixed)) (L .uses-behind) maxFixed (padded-length maxFixed greatest (map useWord (allUses (j .fixed))) (simp length-map (uses-fit j s g))));
+        ends = rw ends (take-at (endWords (s .table)) et maxEntries ends-long);
+        rests = rw rests (take-at (restWords (s .table)) rt maxEntries rests-long);
+        uses = rw uses (take-at (useWords (j .fixed)) ut maxFixed uses-long);
       }
 
-  segments-lent : segmentsIn (W .froms) (W .tos) (W .values) ≡ segmentsOf j v
-  segments-lent = rw (L .froms, L .tos, L .values) (segments-back (segmentsOf j v))
+  -- a check asked of any segments that no test refuses, in either form: the walk over what is lent reports what the check lists
+  pub asked-reports :
+      (full : Bool) (r : ℕ)
+      → getD (W .froms) 0 0 < 2 ^ 32
+      → rangesRefusal 0 (segmentsIn (W .froms) (W .tos) (W .values)) ≡ none
+      → remaining W (entered (W .ends) (W .froms) (unitMap j r) full)
+      ≡ check full (j .fixed) (s .table) (unitMap j r) (segmentsIn (W .froms) (W .tos) (W .values))
+  asked-reports full r f q =
+      reached-walk (j .fixed) (g .premises .sound) (heldCells j s g) (s .table) (g .agrees .table) (g .premises .few-fixed) (cells-fit j s g)
+      (small-fixed j s g) (small-held j s g) (small-holders j s g) W holds full (unitMap j r) (small-map j s g r) f q
 
-  -- the walk over what is lent reports what the check lists
-  pub reports-are : (r : ℕ) → reportsOn W (unitMap j r) ≡ checkOf j s v r
-  unfolding reportsOn checkOf
-  reports-are r =
-      reached-walk (j .fixed) (g .premises .sound) (heldCells j s g) (s .table) (g .agrees .table) (g .premises .few-fixed) (cells-fit j s g) (small-fixed j s g)
-      (small-held j s g) (small-holders j s g) W holds false (unitMap j r) (small-map j s g r)
-      (subst (λ (l : List ℕ). getD l 0 0 < 2 ^ 32) (sym (L .froms)) (first-small j s g v b))
-      (ap (rangesRefusal 0) segments-lent ∙ ranges-good j s g v b)
-      ∙ ap (check false (j .fixed) (s .table) (unitMap j r)) segments-lent
+-- the walk over what is lent reports what the check of v's segments lists
+pub reports-are :
+    (j : Job) (s : State)
+    → Good j s
+    → (v : ℕ)
+    → IsNumber j v
+    → (W : Lent)
+    → LaidOut j s v W
+    → (r : ℕ)
+    → reportsOn W (unitMap j r) ≡ checkOf j s v r
+unfolding reportsOn checkOf
+reports-are j s g v b W L r =
+    asked-reports j s g W (L .ends-behind) (L .rests-behind) (L .uses-behind) (L .ends) (L .rests) (L .uses) false r
+    (subst (λ (l : List ℕ). getD l 0 0 < 2 ^ 32) (sym (L .froms)) (first-small j s g v b))
+    (ap (rangesRefusal 0) same ∙ ranges-good j s g v b)
+    ∙ ap (check false (j .fixed) (s .table) (unitMap j r)) same
+  where
+    same : segmentsIn (W .froms) (W .tos) (W .values) ≡ segmentsOf j v
+    same = rw (L .froms, L .tos, L .values) (segments-back (segmentsOf j v))

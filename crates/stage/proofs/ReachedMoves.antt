@@ -1,33 +1,39 @@
 -- Placing and evicting on a state that calls reach: afterwards the slices hold the table of the state that the rules give, and what is lent behind it
 -- is unchanged. Assumes nothing.
-use Prim.Native.Nat.{ℕ, _+_, _≤_}
+use Prim.Native.Nat.{ℕ, suc, _+_, _-_, _^_, _≤_, _<_}
 use native.Mathlib.Omega.{arith}
+use native.Mathlib.Numerals.{add-one}
 use mathlib.Core.Path.{_≡_, sym, ap, _∙_, subst}
 use mathlib.Core.List.{List, [], _++_, map}
-use mathlib.Core.Option.{Option, some}
-use mathlib.Core.Bool.{Bool, false}
-use lib.ListN.{length}
+use mathlib.Core.Option.{Option, none, some}
+use mathlib.Core.Bool.{Bool, true, false}
+use lib.ListN.{length, getD}
+use Rattle.reg_matrix.specs.Lists.{keep, filter, count, foldl}
+use Rattle.reg_matrix.specs.Questions.{isUnitFree}
 use Rattle.reg_matrix.specs.Layout.{maxEntries, endWords, restWords, useWords}
 use Rattle.reg_matrix.proofs.Cells.{Cell}
 use Rattle.reg_matrix.proofs.Whole.{cells}
 use Rattle.reg_matrix.proofs.Laws.{Matrix}
 use Rattle.matrix.specs.Moves.{Words, words}
-use Rattle.matrix.specs.Placing.{Assigned, Evicted}
+use Rattle.matrix.specs.Placing.{Assigned, Evicted, freeAt, range}
 use Rattle.matrix.specs.declared.Moved.{Moved}
+use Rattle.matrix.proofs.Decode.{fits-word}
 use Rattle.matrix.proofs.Standing.{Stands}
 use Rattle.matrix.proofs.Lying.{UsesLie}
 use Rattle.matrix.proofs.Moving.{SmallCells}
+use Rattle.matrix.proofs.Asked.{free-stands}
 use Rattle.matrix.proofs.Answered.{Carried, assigned, evicted}
 use Rattle.job.specs.Model.{Job, segmentsOf, unitMap}
 use Rattle.job.proofs.Premises.{IsNumber}
-use Rattle.allocator.specs.State.{State, heldBy, checkOf, give, lose}
+use Rattle.allocator.specs.State.{State, heldBy, checkOf, give, lose, evictNumber}
+use Rattle.allocator.specs.Dequeue.{evictAll}
 use Rattle.allocator.specs.declared.CandidateReg.{CandidateReg}
 use Rattle.allocator.specs.Holding.{but}
 use Rattle.allocator.proofs.Holders.{cellsIf, ahead, behind, split-at, cells-more}
 use Rattle.allocator.proofs.Agrees.{regHeld, Candidate, give-agrees}
 use Rattle.allocator.proofs.Capacity.{few-cells}
 use Rattle.allocator.proofs.Good.{Good, Idle, idle-waiting}
-use Rattle.stage.proofs.Reached.{heldCells, small-fixed, small-held, cells-fit, entries-fit, uses-fit, small-points}
+use Rattle.stage.proofs.Reached.{heldCells, small-fixed, small-held, cells-fit, entries-fit, uses-fit, walkable, small-points}
 
 module _ (j : Job) (s : State) (g : Good j s) where
   -- the table stands in slices that are its layout and whatever is lent behind
@@ -37,6 +43,19 @@ module _ (j : Job) (s : State) (g : Good j s) where
   -- and the fixed uses lie in theirs
   pub uses-lie : (us ut : List ℕ) → us ≡ useWords (j .fixed) ++ ut → UsesLie (j .fixed) ut us
   uses-lie us ut p = record { few = uses-fit j s g; are = p }
+
+  -- the spare question on the slices is the question on the table
+  pub spare-found :
+      (et rt : List ℕ) (w : Words)
+      → Stands (s .table) et rt w
+      → (u from to : ℕ)
+      → u < 64
+      → from < 2 ^ 32
+      → freeAt u from to w ≡ isUnitFree (s .table) u (range from to)
+  spare-found et rt w st u from to a b =
+      let k = walkable j s g in
+      free-stands (s .table) et rt w st (k .sorted) (λ e m. record { unit = k .small e m .unit; to = k .small e m .to })
+      (λ e m. fits-word (e .reservation) (k .small e m .reservation)) u from to a b
 
   module _ (et rt ut uses : List ℕ) (w w′ : Words) (st : Stands (s .table) et rt w) (lie : UsesLie (j .fixed) ut uses) (v m : ℕ) (fs ts : List ℕ)
       (ends : ts ≡ map (λ x. x .to) (segmentsOf j v)) (c : CandidateReg) (units : m ≡ unitMap j (c .reg)) (r : Moved) where
@@ -51,7 +70,8 @@ module _ (j : Job) (s : State) (g : Good j s) where
         → Carried (give j v c f s .table) et rt w′ r
     unfolding give checkOf
     assign-gives starts i k z a f =
-        assigned (j .fixed) ut uses lie et rt (s .table) w st (g .premises .sound) (small-fixed j s g) v (unitMap j (c .reg)) (omega (arith, i .known, g .premises .few-numbers))
+        assigned (j .fixed) ut uses lie et rt (s .table) w st (g .premises .sound) (small-fixed j s g) v (unitMap j (c .reg))
+        (omega (arith, i .known, g .premises .few-numbers))
         (segmentsOf j v) w′ r
         (subst (λ (l : List ℕ). Assigned v (unitMap j (c .reg)) uses (map (λ x. x .from) (segmentsOf j v)) l w w′ r) ends
         (subst (λ (l : List ℕ). Assigned v (unitMap j (c .reg)) uses l ts w w′ r) starts (subst (λ (n : ℕ). Assigned v n uses fs ts w w′ r) units a)))
@@ -71,7 +91,8 @@ module _ (j : Job) (s : State) (g : Good j s) where
     pub evict-loses : heldBy s v ≡ some c → Evicted v m uses ts w w′ r → Carried (lose j v (c .reg) s .table) et rt w′ r
     unfolding lose
     evict-loses e a =
-        evicted (j .fixed) ut uses lie et rt (s .table) w st (g .premises .sound) (small-fixed j s g) v (unitMap j (c .reg)) (omega (arith, known, g .premises .few-numbers))
+        evicted (j .fixed) ut uses lie et rt (s .table) w st (g .premises .sound) (small-fixed j s g) v (unitMap j (c .reg))
+        (omega (arith, known, g .premises .few-numbers))
         (segmentsOf j v) w′ r
         (subst (λ (l : List ℕ). Evicted v (unitMap j (c .reg)) uses l w w′ r) ends (subst (λ (n : ℕ). Evicted v n uses ts w w′ r) units a))
         (ahead j (g .holding) v) (behind j (g .holding) v)
@@ -87,3 +108,41 @@ module _ (j : Job) (s : State) (g : Good j s) where
         its-cells =
             split-at j (g .holding) v known
             ∙ ap (λ (o : Option ℕ). ahead j (g .holding) v ++ (cellsIf j v o ++ behind j (g .holding) v)) (sym (g .agrees .regs v) ∙ ap regHeld e)
+
+-- ---- the evictions of a dequeue, one after another: those from here on are the whole
+
+-- who holds a register loses it
+pub evict-held : (j : Job) (s : State) (v : ℕ) (c : CandidateReg) → heldBy s v ≡ some c → evictNumber j s v ≡ lose j v (c .reg) s
+unfolding evictNumber
+evict-held j s v c e = rw e
+
+-- who holds nothing stays
+pub evict-nothing : (j : Job) (s : State) (v : ℕ) → heldBy s v ≡ none → evictNumber j s v ≡ s
+unfolding evictNumber
+evict-nothing j s v e = rw e
+
+module _ (j : Job) (marks : List Bool) (i : ℕ) (s : State) where
+  -- the marked numbers from k on are evicted
+  abbrev pub evictMarked : ℕ → State → State
+  evictMarked k t = evictAll j (filter (λ w. getD marks w false) (count k (512 - k))) t
+
+  marked-here :
+      i < 512
+      → (b : Bool)
+      → getD marks i false ≡ b
+      → evictMarked i s ≡ evictAll j (keep b i (filter (λ w. getD marks w false) (count (i + 1) (512 - (i + 1))))) s
+  unfolding filter count
+  marked-here h b q =
+      let e : 512 - i ≡ suc (512 - (i + 1)) = omega arith in
+      rw (e, q, add-one i)
+
+  pub marked-yes : i < 512 → getD marks i false ≡ true → evictMarked (i + 1) (evictNumber j s i) ≡ evictMarked i s
+  unfolding evictAll foldl
+  marked-yes h q = sym (marked-here h true q)
+
+  pub marked-no : i < 512 → getD marks i false ≡ false → evictMarked (i + 1) s ≡ evictMarked i s
+  marked-no h q = sym (marked-here h false q)
+
+  pub marked-end : 512 ≤ i → s ≡ evictMarked i s
+  unfolding evictAll foldl filter count
+  marked-end h = let e : 512 - i ≡ 0 = omega arith in rw e

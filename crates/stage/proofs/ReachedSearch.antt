@@ -31,14 +31,16 @@ use Rattle.allocator.specs.declared.Stage.{Stage}
 use Rattle.allocator.specs.Order.{hintedOrder, order}
 use Rattle.allocator.specs.Evict.{holder, ruledOut, holders, evictees, weights, spillWeight, costOf, allowed, cheaper, Eviction, bestCost, better, tryEvict, preferred}
 use Rattle.allocator.specs.Dequeue.{Decision, leaves, evicteesOf, noneClear, byClear, isClear, byCandidates, decide}
-use Rattle.allocator.proofs.Holders.{none-some, cell-out}
-use Rattle.allocator.proofs.Agrees.{regHeld, last-named}
+use Rattle.allocator.proofs.Holders.{cell-out}
+use Rattle.allocator.proofs.Agrees.{last-named}
 use Rattle.allocator.proofs.Decisions.{Candidates, candidates-out, hinted-good, order-good, has-out}
 use Rattle.allocator.proofs.Capacity.{hinted-length}
 use Rattle.allocator.proofs.Rebuilt.{named-known}
 use Rattle.allocator.proofs.Good.{Good}
+use Rattle.allocator.proofs.Records.{held-record}
 use Rattle.stage.specs.EvictWalk.{recordWeight, noRecord, mayEvict, triedOf}
 use Rattle.stage.specs.AllocateWalk.{reportsOn, clearOn, noneOf, availableIn, noBest, taking, triedOn, improves, betterIn, evictIn, prefers, preferIn}
+use Rattle.stage.specs.declared.evict.Tried.{Tried}
 use Rattle.stage.specs.declared.allocate.Best.{Best}
 use Rattle.stage.specs.declared.allocate.Available.{Available}
 use Rattle.stage.specs.declared.allocate.Available.the-variants.{Clear, NoneClear, NoCandidates}
@@ -96,23 +98,25 @@ module _ (j : Job) (s : State) (g : Good j s) (maps : List ℕ) (rs : List Assig
   unfolding jobBuffers virtReg
   spill-read v h =
       rw (S .spills-are)
-      (padded-read 512 zeroWeight (map (λ (x : model.VirtReg). x .spillWeight) (j .virtRegs)) (S .spills-behind) v (simp length-map (g .premises .few-numbers)) h
+      (padded-read 512 zeroWeight (map (λ (x : model.VirtReg). x .spillWeight) (j .virtRegs)) (S .spills-behind) v
+      (simp length-map (g .premises .few-numbers)) h
       ∙ List·getD-map (λ (x : model.VirtReg). x .spillWeight) (j .virtRegs) v noVirtReg)
 
   pub record-read : (v : ℕ) → v < 512 → getD rs v noRecord ≡ recordOf s v
   unfolding records
   record-read v h = rw (S .records-are) (from-zero (recordOf s) noRecord 512 v h)
 
-  -- who is left over holds nothing
   pub held-read : (v : ℕ) → v < 512 → recordWeight (getD rs v noRecord) ≡ weightOf (heldBy s v)
   unfolding recordOf
-  held-read v h = ap recordWeight (record-read v h) ∙ go (isLeftOver s v) refl (heldBy s v) refl
+  held-read v h = ap recordWeight (record-read v h) ∙ go (heldBy s v) refl
     where
-      go : (l : Bool) → isLeftOver s v ≡ l → (o : Option CandidateReg) → heldBy s v ≡ o → recordWeight (assignment l (flag s v) o) ≡ weightOf o
-      go true e none q = refl
-      go true e (some c) q = absurd (none-some (sym (g .agrees .left v (subst T (sym e) tt)) ∙ sym (g .agrees .regs v) ∙ ap regHeld q))
-      go false e none q = refl
-      go false e (some c) q = refl
+      nothing : (l : Bool) → recordWeight (assignment l (flag s v) none) ≡ zeroWeight
+      nothing true = refl
+      nothing false = refl
+
+      go : (o : Option CandidateReg) → heldBy s v ≡ o → recordWeight (recordOf s v) ≡ weightOf o
+      go none q = ap (λ (o : Option CandidateReg). recordWeight (assignment (isLeftOver s v) (flag s v) o)) q ∙ nothing (isLeftOver s v)
+      go (some c) q = ap recordWeight (held-record j s g v c q)
 
 -- ---- who is reported
 
@@ -122,7 +126,8 @@ module _ (j : Job) (s : State) (g : Good j s) (v r : ℕ) where
   unfolding holders checkOf
   reported-known w m =
       let k = concat-out (λ (x : Interference). holder (x .kind)) (check false (j .fixed) (s .table) (unitMap j r) (segmentsOf j v)) m in
-      let c = report-cell (j .fixed) (g .premises .sound) (heldCells j s g) (s .table) (g .agrees .table) false (unitMap j r) (segmentsOf j v) (k .0) w (k .1) (is-holder (k .0 .kind) (k .2)) in
+      let c = report-cell (j .fixed) (g .premises .sound) (heldCells j s g) (s .table) (g .agrees .table) false (unitMap j r) (segmentsOf j v)
+      (k .0) w (k .1) (is-holder (k .0 .kind) (k .2)) in
       subst (λ (n : ℕ). IsNumber j n) (c .2) (cell-out j (g .holding) (c .0) (c .1) .known)
     where
       is-holder : (k : InterferenceKind) → w ∈ holder k → k ≡ VirtReg w
@@ -137,7 +142,10 @@ module _ (j : Job) (s : State) (g : Good j s) (v r : ℕ) where
       go (w ∷ ws) h = (h w (List·Memᴰ·head refl), go ws (λ u m. h u (List·Memᴰ·tail m)))
 
   -- the marked numbers of 512, ascending, are the rule's evictees
-  pub marked-evictees : (marks : List Bool) → ((w : ℕ) → w < 512 → getD marks w false ≡ has w (holders (checkOf j s v r))) → filter (λ w. getD marks w false) (count 0 512) ≡ evictees j (checkOf j s v r)
+  pub marked-evictees :
+      (marks : List Bool)
+      → ((w : ℕ) → w < 512 → getD marks w false ≡ has w (holders (checkOf j s v r)))
+      → filter (λ w. getD marks w false) (count 0 512) ≡ evictees j (checkOf j s v r)
   unfolding evictees
   marked-evictees marks h =
       filter-same (λ w. getD marks w false) isReported (count 0 512) (λ w m. h w (omega (arith, count-out 0 512 w m .1)))
@@ -161,8 +169,26 @@ module _ (j : Job) (s : State) (g : Good j s) (v r : ℕ) where
 
 -- ---- the searches
 
-module _ (j : Job) (s : State) (g : Good j s) (v : ℕ) (b : IsNumber j v) (W : Lent) (L : LaidOut j s v W) (maps : List ℕ) (rs : List Assignment) (ss : List Float) (S : SearchLent j s maps rs ss) where
-  reports-read : (c : CandidateReg) → c .reg < 64 → reportsOn W (getD maps (c .reg) 0) ≡ checkOf j s v (c .reg)
+abbrev weight : CandidateReg → Float
+weight c = c .«preference_weight»
+
+module _ (j : Job) (s : State) (g : Good j s) (v : ℕ) (b : IsNumber j v) (W : Lent) (L : LaidOut j s v W)
+    (maps : List ℕ) (rs : List Assignment) (ss : List Float) (S : SearchLent j s maps rs ss) where
+  -- what the rule's check lists for a candidate, and its cost
+  abbrev reported : CandidateReg → List Interference
+  reported c = checkOf j s v (c .reg)
+
+  abbrev costs : CandidateReg → EvictCost
+  costs c = costOf j s (reported c)
+
+  -- what the code finds in its reports, and the best with it
+  abbrev tried : CandidateReg → Tried
+  tried c = triedOn W maps rs ss c
+
+  abbrev betterHere : Best → CandidateReg → Best
+  betterHere = betterIn W maps rs ss (flag s v) (spillWeight j v)
+
+  reports-read : (c : CandidateReg) → c .reg < 64 → reportsOn W (getD maps (c .reg) 0) ≡ reported c
   reports-read c h = ap (reportsOn W) (map-read j s g maps rs ss S (c .reg) h) ∙ reports-are j s g v b W L (c .reg)
 
   -- ---- a clear candidate
@@ -178,7 +204,10 @@ module _ (j : Job) (s : State) (g : Good j s) (v : ℕ) (b : IsNumber j v) (W : 
   asAvailable t (some c) = Clear c
 
   -- the first clear candidate
-  pub available-found : (t : Bool) (cs : List CandidateReg) → SmallRegs cs → availableIn W maps t cs ≡ asAvailable (t || not (isNil cs)) (first (isClear j s v) cs)
+  pub available-found :
+      (t : Bool) (cs : List CandidateReg)
+      → SmallRegs cs
+      → availableIn W maps t cs ≡ asAvailable (t || not (isNil cs)) (first (isClear j s v) cs)
   unfolding availableIn first
   available-found true [] h = refl
   available-found false [] h = refl
@@ -201,7 +230,10 @@ module _ (j : Job) (s : State) (g : Good j s) (v : ℕ) (b : IsNumber j v) (W : 
   byAvailable hinted cs q NoneClear = noneClear j s v cs q
   byAvailable hinted cs q (Clear c) = byClear j s v hinted cs q (some c)
 
-  pub decide-found : (q : Stage) → decide j s v q ≡ byAvailable (ownHinted j s g v b) (order j v (ownHinted j s g v b)) q (availableIn W maps false (order j v (ownHinted j s g v b)))
+  pub decide-found :
+      (q : Stage)
+      → decide j s v q
+      ≡ byAvailable (ownHinted j s g v b) (order j v (ownHinted j s g v b)) q (availableIn W maps false (order j v (ownHinted j s g v b)))
   unfolding decide first
   decide-found q =
       go (order j v hinted) ∙ ap (byAvailable hinted (order j v hinted) q) (sym (available-found false (order j v hinted) (order-small j s g v b)))
@@ -209,7 +241,9 @@ module _ (j : Job) (s : State) (g : Good j s) (v : ℕ) (b : IsNumber j v) (W : 
       hinted : List CandidateReg
       hinted = ownHinted j s g v b
 
-      some-tried : (c : CandidateReg) (cs : List CandidateReg) (o : Option CandidateReg) → byClear j s v hinted (c ∷ cs) q o ≡ byAvailable hinted (c ∷ cs) q (asAvailable true o)
+      some-tried :
+          (c : CandidateReg) (cs : List CandidateReg) (o : Option CandidateReg)
+          → byClear j s v hinted (c ∷ cs) q o ≡ byAvailable hinted (c ∷ cs) q (asAvailable true o)
       some-tried c cs none = refl
       some-tried c cs (some d) = refl
 
@@ -220,21 +254,23 @@ module _ (j : Job) (s : State) (g : Good j s) (v : ℕ) (b : IsNumber j v) (W : 
   -- ---- what the reports say of a candidate
 
   abbrev pub FoundOn : CandidateReg → Type 0
-  FoundOn c = Found j s rs ss (held-read j s g maps rs ss S) (spill-read j s g maps rs ss S) (checkOf j s v (c .reg)) (triedOn W maps rs ss c)
+  FoundOn c = Found j s rs ss (held-read j s g maps rs ss S) (spill-read j s g maps rs ss S) (reported c) (tried c)
 
   -- its cost, the sum at every report and its holders, where no report is fixed
-  pub tried-found : (c : CandidateReg) → c .reg < 64 → ruledOut (checkOf j s v (c .reg)) ≡ false → FoundOn c
+  pub tried-found : (c : CandidateReg) → c .reg < 64 → ruledOut (reported c) ≡ false → FoundOn c
   unfolding triedOn
   tried-found c h q =
-      subst (λ (xs : List Interference). Found j s rs ss (held-read j s g maps rs ss S) (spill-read j s g maps rs ss S) (checkOf j s v (c .reg)) (triedOf rs ss xs)) (sym (reports-read c h))
-      (found j s rs ss (held-read j s g maps rs ss S) (spill-read j s g maps rs ss S) (checkOf j s v (c .reg)) (reported-small j s g v (c .reg)) q)
+      subst
+      (λ (xs : List Interference). Found j s rs ss (held-read j s g maps rs ss S) (spill-read j s g maps rs ss S) (reported c) (triedOf rs ss xs))
+      (sym (reports-read c h))
+      (found j s rs ss (held-read j s g maps rs ss S) (spill-read j s g maps rs ss S) (reported c) (reported-small j s g v (c .reg)) q)
 
   -- a fixed report rules it out
-  pub ruled-out-found : (c : CandidateReg) → c .reg < 64 → triedOn W maps rs ss c .«ruled_out» ≡ ruledOut (checkOf j s v (c .reg))
+  pub ruled-out-found : (c : CandidateReg) → c .reg < 64 → tried c .«ruled_out» ≡ ruledOut (reported c)
   unfolding triedOn triedOf
-  ruled-out-found c h = go (ruledOut (checkOf j s v (c .reg))) refl
+  ruled-out-found c h = go (ruledOut (reported c)) refl
     where
-      go : (z : Bool) → ruledOut (checkOf j s v (c .reg)) ≡ z → triedOn W maps rs ss c .«ruled_out» ≡ z
+      go : (z : Bool) → ruledOut (reported c) ≡ z → tried c .«ruled_out» ≡ z
       go true q = rule-out rs ss (reportsOn W (getD maps (c .reg) 0)) _ _ _ (ap ruledOut (reports-read c h) ∙ q)
       go false q = tried-found c h q .clean
 
@@ -244,13 +280,13 @@ module _ (j : Job) (s : State) (g : Good j s) (v : ℕ) (b : IsNumber j v) (W : 
   pub record Finds (best : Best) (c : CandidateReg) : Type 0 where
     pub found : best .found ≡ true
     pub to : best .to ≡ c
-    pub cost : best .cost ≡ costOf j s (checkOf j s v (c .reg))
+    pub cost : best .cost ≡ costs c
     pub evicts : filter (λ w. getD (best .holders) w false) (count 0 512) ≡ evicteesOf j s v c
 
-  takes-it : (c : CandidateReg) → c .reg < 64 → ruledOut (checkOf j s v (c .reg)) ≡ false → Finds (taking c (triedOn W maps rs ss c)) c
+  takes-it : (c : CandidateReg) → c .reg < 64 → ruledOut (reported c) ≡ false → Finds (taking c (tried c)) c
   takes-it c h q =
       let f = tried-found c h q in
-      record { found = refl; to = refl; cost = f .cost; evicts = marked-evictees j s g v (c .reg) (triedOn W maps rs ss c .holders) (f .who) }
+      record { found = refl; to = refl; cost = f .cost; evicts = marked-evictees j s g v (c .reg) (tried c .holders) (f .who) }
 
   -- nothing found, or an eviction
   abbrev pub BestIs : Best → Option Eviction → Type 0
@@ -259,11 +295,11 @@ module _ (j : Job) (s : State) (g : Good j s) (v : ℕ) (b : IsNumber j v) (W : 
 
   abbrev improvesBy : CandidateReg → EvictCost → Bool
   improvesBy c best =
-      let xs = checkOf j s v (c .reg) in
+      let xs = reported c in
       not (ruledOut xs) && (allowed j s v c (costOf j s xs) && cheaper (costOf j s xs) best)
 
-  improves-is : (c : CandidateReg) → c .reg < 64 → (best : EvictCost) → improves (flag s v) (spillWeight j v) c (triedOn W maps rs ss c) best ≡ improvesBy c best
-  improves-is c h best = rw (ruled-out-found c h) (go (ruledOut (checkOf j s v (c .reg))) refl)
+  improves-is : (c : CandidateReg) → c .reg < 64 → (best : EvictCost) → improves (flag s v) (spillWeight j v) c (tried c) best ≡ improvesBy c best
+  improves-is c h best = rw (ruled-out-found c h) (go (ruledOut (reported c)) refl)
     where
       turned : (w f l : Bool) → (l || (not f && not w)) ≡ ((not w && not f) || l)
       turned true true true = refl
@@ -275,27 +311,30 @@ module _ (j : Job) (s : State) (g : Good j s) (v : ℕ) (b : IsNumber j v) (W : 
       turned false false true = refl
       turned false false false = refl
 
-      same : (k : EvictCost) → k ≡ costOf j s (checkOf j s v (c .reg))
-          → (mayEvict (c .«preference_weight») (flag s v) (k .«spill_weight») (spillWeight j v) && cheaper k best)
-          ≡ (allowed j s v c (costOf j s (checkOf j s v (c .reg))) && cheaper (costOf j s (checkOf j s v (c .reg))) best)
+      same : (k : EvictCost) → k ≡ costs c
+          → (mayEvict (weight c) (flag s v) (k .«spill_weight») (spillWeight j v) && cheaper k best)
+          ≡ (allowed j s v c (costs c) && cheaper (costs c) best)
       same k e =
-          subst (λ (d : EvictCost). (mayEvict (c .«preference_weight») (flag s v) (k .«spill_weight») (spillWeight j v) && cheaper k best) ≡ (allowed j s v c d && cheaper d best)) e
-          (ap (λ (z : Bool). z && cheaper k best) (turned (eq (c .«preference_weight») zeroWeight) (flag s v) (lt (k .«spill_weight») (spillWeight j v))))
+          subst
+          (λ (d : EvictCost).
+          (mayEvict (weight c) (flag s v) (k .«spill_weight») (spillWeight j v) && cheaper k best) ≡ (allowed j s v c d && cheaper d best)) e
+          (ap (λ (z : Bool). z && cheaper k best) (turned (eq (weight c) zeroWeight) (flag s v) (lt (k .«spill_weight») (spillWeight j v))))
 
-      go : (z : Bool) → ruledOut (checkOf j s v (c .reg)) ≡ z
-          → (not z && (mayEvict (c .«preference_weight») (flag s v) (triedOn W maps rs ss c .cost .«spill_weight») (spillWeight j v) && cheaper (triedOn W maps rs ss c .cost) best))
-          ≡ (not z && (allowed j s v c (costOf j s (checkOf j s v (c .reg))) && cheaper (costOf j s (checkOf j s v (c .reg))) best))
+      go : (z : Bool) → ruledOut (reported c) ≡ z
+          → (not z && (mayEvict (weight c) (flag s v) (tried c .cost .«spill_weight») (spillWeight j v) && cheaper (tried c .cost) best))
+          ≡ (not z && (allowed j s v c (costs c) && cheaper (costs c) best))
       go true q = refl
-      go false q = same (triedOn W maps rs ss c .cost) (tried-found c h q .cost)
+      go false q = same (tried c .cost) (tried-found c h q .cost)
 
   best-cost : (best : Best) (o : Option Eviction) → BestIs best o → best .cost ≡ bestCost o
   best-cost best none q = ap (λ (x : Best). x .cost) q
   best-cost best (some e) q = q .1
 
-  better-is : (best : Best) (o : Option Eviction) (c : CandidateReg) → c .reg < 64 → BestIs best o → BestIs (betterIn W maps rs ss (flag s v) (spillWeight j v) best c) (better j s v o c)
+  better-is : (best : Best) (o : Option Eviction) (c : CandidateReg) → c .reg < 64 → BestIs best o → BestIs (betterHere best c) (better j s v o c)
   unfolding betterIn better
   better-is best o c h q =
-      subst (λ (z : Bool). BestIs (cond z (taking c (triedOn W maps rs ss c)) best) (better j s v o c)) (sym (improves-is c h (best .cost) ∙ ap (improvesBy c) (best-cost best o q)))
+      subst (λ (z : Bool). BestIs (cond z (taking c (tried c)) best) (better j s v o c))
+      (sym (improves-is c h (best .cost) ∙ ap (improvesBy c) (best-cost best o q)))
       (go (improvesBy c (bestCost o)) refl)
     where
       open-one : (r z : Bool) → (not r && z) ≡ true → r ≡ false
@@ -303,8 +342,8 @@ module _ (j : Job) (s : State) (g : Good j s) (v : ℕ) (b : IsNumber j v) (W : 
       open-one false z e = refl
 
       go : (z : Bool) → improvesBy c (bestCost o) ≡ z
-          → BestIs (cond z (taking c (triedOn W maps rs ss c)) best) (cond z (some (record { to = c; cost = costOf j s (checkOf j s v (c .reg)) })) o)
-      go true e = let f = takes-it c h (open-one (ruledOut (checkOf j s v (c .reg))) _ e) in (f, f .cost)
+          → BestIs (cond z (taking c (tried c)) best) (cond z (some (record { to = c; cost = costs c })) o)
+      go true e = let f = takes-it c h (open-one (ruledOut (reported c)) _ e) in (f, f .cost)
       go false e = q
 
   -- the best eviction
@@ -312,10 +351,15 @@ module _ (j : Job) (s : State) (g : Good j s) (v : ℕ) (b : IsNumber j v) (W : 
   unfolding evictIn tryEvict foldl
   eviction-found cs h = go cs h noBest none refl
     where
-      go : (cs : List CandidateReg) → SmallRegs cs → (best : Best) (o : Option Eviction) → BestIs best o → BestIs (foldl (betterIn W maps rs ss (flag s v) (spillWeight j v)) best cs) (foldl (better j s v) o cs)
+      go :
+          (cs : List CandidateReg)
+          → SmallRegs cs
+          → (best : Best) (o : Option Eviction)
+          → BestIs best o
+          → BestIs (foldl betterHere best cs) (foldl (better j s v) o cs)
       go [] h best o q = q
       go (c ∷ cs) h best o q =
-          go cs (λ d m. h d (List·Memᴰ·tail m)) (betterIn W maps rs ss (flag s v) (spillWeight j v) best c) (better j s v o c) (better-is best o c (h c (List·Memᴰ·head refl)) q)
+          go cs (λ d m. h d (List·Memᴰ·tail m)) (betterHere best c) (better j s v o c) (better-is best o c (h c (List·Memᴰ·head refl)) q)
 
   -- ---- the search for a preferred register
 
@@ -323,22 +367,26 @@ module _ (j : Job) (s : State) (g : Good j s) (v : ℕ) (b : IsNumber j v) (W : 
   PreferredIs best none = best ≡ noBest
   PreferredIs best (some c) = Finds best c
 
-  prefers-is : (clear c : CandidateReg) → c .reg < 64 → prefers clear c (triedOn W maps rs ss c) ≡ preferred j s v clear c
+  prefers-is : (clear c : CandidateReg) → c .reg < 64 → prefers clear c (tried c) ≡ preferred j s v clear c
   unfolding preferred
-  prefers-is clear c h = rw (ruled-out-found c h) (go (ruledOut (checkOf j s v (c .reg))) refl)
+  prefers-is clear c h = rw (ruled-out-found c h) (go (ruledOut (reported c)) refl)
     where
-      go : (z : Bool) → ruledOut (checkOf j s v (c .reg)) ≡ z
-          → (lt (clear .«preference_weight») (c .«preference_weight») && (not z && lt (triedOn W maps rs ss c .«every_report») (c .«preference_weight»)))
-          ≡ (lt (clear .«preference_weight») (c .«preference_weight») && (not z && lt (weights s (holders (checkOf j s v (c .reg)))) (c .«preference_weight»)))
+      go : (z : Bool) → ruledOut (reported c) ≡ z
+          → (lt (weight clear) (weight c) && (not z && lt (tried c .«every_report») (weight c)))
+          ≡ (lt (weight clear) (weight c) && (not z && lt (weights s (holders (reported c))) (weight c)))
       go true q = refl
-      go false q = ap (λ (w : Float). lt (clear .«preference_weight») (c .«preference_weight») && lt w (c .«preference_weight»)) (tried-found c h q .every)
+      go false q = ap (λ (w : Float). lt (weight clear) (weight c) && lt w (weight c)) (tried-found c h q .every)
 
   -- the first preferred candidate
-  pub preferred-found : (clear : CandidateReg) (cs : List CandidateReg) → SmallRegs cs → PreferredIs (preferIn W maps rs ss clear cs) (first (preferred j s v clear) cs)
+  pub preferred-found :
+      (clear : CandidateReg) (cs : List CandidateReg)
+      → SmallRegs cs
+      → PreferredIs (preferIn W maps rs ss clear cs) (first (preferred j s v clear) cs)
   unfolding preferIn first preferred
   preferred-found clear [] h = refl
   preferred-found clear (c ∷ cs) h =
-      subst (λ (z : Bool). PreferredIs (cond z (taking c (triedOn W maps rs ss c)) (preferIn W maps rs ss clear cs)) (first (preferred j s v clear) (c ∷ cs))) (sym (prefers-is clear c (h c (List·Memᴰ·head refl))))
+      subst (λ (z : Bool). PreferredIs (cond z (taking c (tried c)) (preferIn W maps rs ss clear cs)) (first (preferred j s v clear) (c ∷ cs)))
+      (sym (prefers-is clear c (h c (List·Memᴰ·head refl))))
       (go (preferred j s v clear c) refl (preferred-found clear cs (λ d m. h d (List·Memᴰ·tail m))))
     where
       not-ruled-out : (a r z : Bool) → (a && (not r && z)) ≡ true → r ≡ false
@@ -348,8 +396,8 @@ module _ (j : Job) (s : State) (g : Good j s) (v : ℕ) (b : IsNumber j v) (W : 
 
       go : (z : Bool) → preferred j s v clear c ≡ z
           → PreferredIs (preferIn W maps rs ss clear cs) (first (preferred j s v clear) cs)
-          → PreferredIs (cond z (taking c (triedOn W maps rs ss c)) (preferIn W maps rs ss clear cs)) (orElse z c (first (preferred j s v clear) cs))
+          → PreferredIs (cond z (taking c (tried c)) (preferIn W maps rs ss clear cs)) (orElse z c (first (preferred j s v clear) cs))
       go true e ih =
           takes-it c (h c (List·Memᴰ·head refl))
-          (not-ruled-out (lt (clear .«preference_weight») (c .«preference_weight»)) (ruledOut (checkOf j s v (c .reg))) (lt (weights s (holders (checkOf j s v (c .reg)))) (c .«preference_weight»)) e)
+          (not-ruled-out (lt (weight clear) (weight c)) (ruledOut (reported c)) (lt (weights s (holders (reported c))) (weight c)) e)
       go false e ih = ih
