@@ -14,7 +14,7 @@ use Rattle.reg_matrix.specs.Check.{check}
 use Rattle.reg_matrix.specs.declared.Interference.{Interference}
 use Rattle.reg_matrix.specs.declared.InterferenceKind.{InterferenceKind}
 use Rattle.reg_matrix.specs.declared.InterferenceKind.the-variants.{Fixed, VirtReg}
-use Rattle.reg_matrix.proofs.Members.{_∈_, filter-none, concat-out, count-out}
+use Rattle.reg_matrix.proofs.Members.{_∈_, filter-none, concat-out, count-out, getD-in}
 use Rattle.reg_matrix.proofs.Places.{padded-read, from-zero, filter-append, count-append}
 use Rattle.reg_matrix.proofs.Laws.{report-cell}
 use Rattle.matrix.specs.Walk.{Lent}
@@ -22,7 +22,7 @@ use Rattle.job.specs.Model as model
 use Rattle.job.specs.Model.{Job, virtReg, noVirtReg, classOf, segmentsOf, unitMap, zeroWeight}
 use Rattle.job.specs.Layout.{jobBuffers}
 use Rattle.job.proofs.Premises.{IsNumber}
-use Rattle.job.proofs.Lists.{getD-in, filter-same}
+use Rattle.job.proofs.Lists.{filter-same}
 use Rattle.allocator.specs.State.{State, heldBy, isLeftOver, flag, lastGiven, weightOf, checkOf, assignment, recordOf, records}
 use Rattle.allocator.specs.declared.Assignment.{Assignment}
 use Rattle.allocator.specs.declared.CandidateReg.{CandidateReg}
