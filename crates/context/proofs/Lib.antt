@@ -2,3 +2,4 @@ pub mod DecideLaws
 pub mod Shares
 pub mod CarryLaws
 pub mod Decision
+pub mod Carried
