@@ -171,17 +171,17 @@ module _ (d : Decided) (v : ℕ) (rs : List Assignment) (maps uses sets sizes hi
       d .fate ≡ Takes
       → (ends′ rests′ queue′ last′ : List ℕ)
       → Taken v (d .to .reg) maps uses sets starts froms tos ends rests queue last ends′ rests′ queue′ last′
-      → (rs′ : List Assignment)
-      → rs′ ≡ set rs v (givenRecord (d .flag) (getD rs v noRecord) (d .to))
-      → Out rs′ ends′ rests′ queue′ last′
+      → (a : Assignment)
+      → a ≡ givenRecord (d .flag) (getD rs v noRecord) (d .to)
+      → Out (set rs v a) ends′ rests′ queue′ last′
   unfolding carryOut evictAll foldl
-  carried-takes x ends′ rests′ queue′ last′ tk rs′ pr =
-      outcome rs′ ends′ rests′ queue′ last′
+  carried-takes x ends′ rests′ queue′ last′ tk b pr =
+      outcome (set rs v b) ends′ rests′ queue′ last′
       (λ j s t q reach g i e k st dec.
       let a = takes-good j s g v i q (d .to) (d .flag) [] (sym dec ∙ ap (λ (z : Fate). decisionBy z d) x) in
       (give j v (d .to) (d .flag) s, by-fate d Takes (takes (d .to) (d .flag) []) x refl j s v q dec,
       gives j s s t rs ends rests queue ends′ rests′ queue′ last′ reach k st i (a .candidate .names) (a .clear) tk,
-      λ is. recorded j s reach i rs rs′ is pr))
+      λ is. recorded j s reach i rs (set rs v b) is (ap (set rs v) pr)))
 
   -- a register is taken from its holders
   pub carried-evicts :
@@ -190,10 +190,10 @@ module _ (d : Decided) (v : ℕ) (rs : List Assignment) (maps uses sets sizes hi
       → EvictedAll (d .evicted) rs maps uses sizes hints starts tos ends rests queue rs₁ ends₁ rests₁ queue₁
       → (ends′ rests′ queue′ last′ : List ℕ)
       → Taken v (d .to .reg) maps uses sets starts froms tos ends₁ rests₁ queue₁ last ends′ rests′ queue′ last′
-      → (rs′ : List Assignment)
-      → rs′ ≡ set rs₁ v (givenRecord (d .flag) (getD rs₁ v noRecord) (d .to))
-      → Out rs′ ends′ rests′ queue′ last′
-  carried-evicts x rs₁ ends₁ rests₁ queue₁ ea ends′ rests′ queue′ last′ tk rs′ pr =
+      → (a : Assignment)
+      → a ≡ givenRecord (d .flag) (getD rs₁ v noRecord) (d .to)
+      → Out (set rs₁ v a) ends′ rests′ queue′ last′
+  carried-evicts x rs₁ ends₁ rests₁ queue₁ ea ends′ rests′ queue′ last′ tk b pr =
       record {
         reached =
             λ j s t q reach e k st is queued dec.
@@ -208,5 +208,5 @@ module _ (d : Decided) (v : ℕ) (rs : List Assignment) (maps uses sets sizes hi
             let step = by-fate d Evicts (takes (d .to) (d .flag) vs) x refl j s v q dec ∙ took j s v (d .to) (d .flag) vs in
             (subst (λ (z : State). Stands j z t ends′ rests′ queue′ last′) (sym step)
             (gives j s y t rs₁ ends₁ rests₁ queue₁ ends′ rests′ queue′ last′ there k (record { moves = m .0; last-is = lasts }) (a .idle) (a .candidate .names) (a .clear) tk),
-            recorded j y there (a .idle) rs₁ rs′ (m .1) pr ∙ ap records (sym step));
+            recorded j y there (a .idle) rs₁ (set rs₁ v b) (m .1) (ap (set rs₁ v) pr) ∙ ap records (sym step));
       }
