@@ -3,3 +3,4 @@ pub mod Shares
 pub mod CarryLaws
 pub mod Decision
 pub mod Carried
+pub mod RunLaws
