@@ -89,17 +89,19 @@ module _ (d : Decided) (v : ℕ) (rs : List Assignment) (maps uses sets sizes hi
   unfolding leave carryOut
   carried-leaves x queue′ pq rs′ pr =
       outcome rs′ ends rests queue′ last
-      (λ j s t q reach g i e k st dec.
-      (leave v s, by-fate d Leaves leaves x refl j s v q dec,
-      record {
-        moves =
-            record {
-              table = record { ends-are = st .moves .table .ends-are; rests-are = st .moves .table .rests-are };
-              queue-is = pq ∙ unqueued j s g (leave v s) v (i .known) (t .queue) queue (st .moves .queue-is) refl;
-            };
-        last-is = st .last-is ∙ ap (λ (l : List ℕ). l ++ t .last) (sym (leave-last j s g v (i .known)));
-      },
-      λ is. pr ∙ ap (λ (l : List Assignment). set l v Dead) is ∙ sym (leave-records j s g v (i .known))))
+      (λ j s t q reach g i e k st dec. (
+        leave v s,
+        by-fate d Leaves leaves x refl j s v q dec,
+        record {
+          moves =
+              record {
+                table = record { ends-are = st .moves .table .ends-are; rests-are = st .moves .table .rests-are };
+                queue-is = pq ∙ unqueued j s g (leave v s) v (i .known) (t .queue) queue (st .moves .queue-is) refl;
+              };
+          last-is = st .last-is ∙ ap (λ (l : List ℕ). l ++ t .last) (sym (leave-last j s g v (i .known)));
+        },
+        λ is. pr ∙ ap (λ (l : List Assignment). set l v Dead) is ∙ sym (leave-records j s g v (i .known)),
+      ))
 
   -- queued otherwise: the table, the last registers and the records stay
   requeued : (j : Job) (s : State) (t : StateBuffers) (g : Good j s) → Idle j s v → (q : Option Stage) (queue′ : List ℕ) → queue′ ≡ queueWords j (requeue v q s) ++ t .queue → Stands j s t ends rests queue last → Stands j (requeue v q s) t ends rests queue′ last
@@ -125,20 +127,24 @@ module _ (d : Decided) (v : ℕ) (rs : List Assignment) (maps uses sets sizes hi
       (λ j s t q reach g i e k st dec.
       let word : queue′ ≡ queueWords j (requeue v (some Split) s) ++ t .queue =
       pq ∙ ap (λ (b : Bool). setWord v (keyOf v b z Split + 1) queue) ph ∙ ap (λ (n : ℕ). setWord v (keyOf v (ltb (getD hints v 0) (getD hints (v + 1) 0)) n Split + 1) queue) pz
-      ∙ queued-at j s g (requeue v (some Split) s) v (i .known) (t .queue) queue (st .moves .queue-is) Split refl hints sizes (e .hintStarts) (e .sizes-are) in
-      (requeue v (some Split) s, by-fate d Splits splits x refl j s v q dec,
-      requeued j s t g i (some Split) queue′ word st,
-      λ is. is ∙ sym (requeue-records j s g v (i .known) (some Split))))
+      ∙ queued-at j s g (requeue v (some Split) s) v (i .known) (t .queue) queue (st .moves .queue-is) Split refl hints sizes (e .hintStarts) (e .sizes-are) in (
+        requeue v (some Split) s,
+        by-fate d Splits splits x refl j s v q dec,
+        requeued j s t g i (some Split) queue′ word st,
+        λ is. is ∙ sym (requeue-records j s g v (i .known) (some Split)),
+      ))
 
   -- off the queue, and the run ends
   pub carried-fails : d .fate ≡ Fails → (queue′ : List ℕ) → queue′ ≡ setWord v 0 queue → Out rs ends rests queue′ last
   unfolding requeue carryOut
   carried-fails x queue′ pq =
       outcome rs ends rests queue′ last
-      (λ j s t q reach g i e k st dec.
-      (requeue v none s, by-fate d Fails fails x refl j s v q dec,
-      requeued j s t g i none queue′ (pq ∙ unqueued j s g (requeue v none s) v (i .known) (t .queue) queue (st .moves .queue-is) refl) st,
-      λ is. is ∙ sym (requeue-records j s g v (i .known) none)))
+      (λ j s t q reach g i e k st dec. (
+        requeue v none s,
+        by-fate d Fails fails x refl j s v q dec,
+        requeued j s t g i none queue′ (pq ∙ unqueued j s g (requeue v none s) v (i .known) (t .queue) queue (st .moves .queue-is) refl) st,
+        λ is. is ∙ sym (requeue-records j s g v (i .known) none),
+      ))
 
   -- a register is taken on the state x that evictions left
   gives :
@@ -178,10 +184,12 @@ module _ (d : Decided) (v : ℕ) (rs : List Assignment) (maps uses sets sizes hi
   carried-takes x ends′ rests′ queue′ last′ tk b pr =
       outcome (set rs v b) ends′ rests′ queue′ last′
       (λ j s t q reach g i e k st dec.
-      let a = takes-good j s g v i q (d .to) (d .flag) [] (sym dec ∙ ap (λ (z : Fate). decisionBy z d) x) in
-      (give j v (d .to) (d .flag) s, by-fate d Takes (takes (d .to) (d .flag) []) x refl j s v q dec,
-      gives j s s t rs ends rests queue ends′ rests′ queue′ last′ reach k st i (a .candidate .names) (a .clear) tk,
-      λ is. recorded j s reach i rs (set rs v b) is (ap (set rs v) pr)))
+      let a = takes-good j s g v i q (d .to) (d .flag) [] (sym dec ∙ ap (λ (z : Fate). decisionBy z d) x) in (
+        give j v (d .to) (d .flag) s,
+        by-fate d Takes (takes (d .to) (d .flag) []) x refl j s v q dec,
+        gives j s s t rs ends rests queue ends′ rests′ queue′ last′ reach k st i (a .candidate .names) (a .clear) tk,
+        λ is. recorded j s reach i rs (set rs v b) is (ap (set rs v) pr),
+      ))
 
   -- a register is taken from its holders
   pub carried-evicts :
@@ -205,8 +213,9 @@ module _ (d : Decided) (v : ℕ) (rs : List Assignment) (maps uses sets sizes hi
             let there = reached-evict-all j vs s reach in
             let m = ea .reached j s t reach e (st .moves) is in
             let lasts : last ≡ lastWords y ++ t .last = st .last-is ∙ ap (λ (l : List ℕ). l ++ t .last) (sym (evictAll-keeps lastWords j (λ v r s. same-last j v r s) vs s)) in
-            let step = by-fate d Evicts (takes (d .to) (d .flag) vs) x refl j s v q dec ∙ took j s v (d .to) (d .flag) vs in
-            (subst (λ (z : State). Stands j z t ends′ rests′ queue′ last′) (sym step)
-            (gives j s y t rs₁ ends₁ rests₁ queue₁ ends′ rests′ queue′ last′ there k (record { moves = m .0; last-is = lasts }) (a .idle) (a .candidate .names) (a .clear) tk),
-            recorded j y there (a .idle) rs₁ (set rs₁ v b) (m .1) (ap (set rs₁ v) pr) ∙ ap records (sym step));
+            let step = by-fate d Evicts (takes (d .to) (d .flag) vs) x refl j s v q dec ∙ took j s v (d .to) (d .flag) vs in (
+              subst (λ (z : State). Stands j z t ends′ rests′ queue′ last′) (sym step)
+                  (gives j s y t rs₁ ends₁ rests₁ queue₁ ends′ rests′ queue′ last′ there k (record { moves = m .0; last-is = lasts }) (a .idle) (a .candidate .names) (a .clear) tk),
+              recorded j y there (a .idle) rs₁ (set rs₁ v b) (m .1) (ap (set rs₁ v) pr) ∙ ap records (sym step),
+            );
       }

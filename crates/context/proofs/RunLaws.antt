@@ -30,7 +30,7 @@ use Rattle.stage.proofs.QueueLaws.{tournament-length, greatest-next}
 use Rattle.context.specs.Standing.{JobReads, JobStands, Stands}
 use Rattle.context.specs.Deciding.{Fate, Leaves, Takes, Evicts, Splits, Fails, Decided, decisionBy, decisionOf, classIn, decidedIn, reading}
 use Rattle.context.specs.Carrying.{EvictReads, TakeReads, CarriedOut}
-use Rattle.context.specs.Running.{lentState, isFails, endingNumber, RunDone}
+use Rattle.context.specs.Running.{lentJob, lentState, isFails, endingNumber, RunDone}
 use Rattle.context.proofs.Decision.{decision-is}
 
 -- ---- the rules' run, one dequeue at a time
@@ -142,11 +142,12 @@ module _ (budget : ℕ) (B : JobBuffers) (rs : List Assignment) (S : StateBuffer
   ends-in : (j : Job) (s : State) (t : StateBuffers) (rs′ : List Assignment) (S′ : StateBuffers) (e n : ℕ) (a : Ran) → a ≡ run j budget s
       → Stands j (a .state) t (S′ .ends) (S′ .rests) (S′ .queue) (S′ .last) → rs′ ≡ records (a .state) → e ≡ endingNumber (a .ending) → n ≡ a .dequeues
       → Stands j (run j budget s .state) t (S′ .ends) (S′ .rests) (S′ .queue) (S′ .last) × (rs′ ≡ records (run j budget s .state)) × (e ≡ endingNumber (run j budget s .ending)) × (n ≡ run j budget s .dequeues)
-  ends-in j s t rs′ S′ e n a p st is pe pn =
-      (subst (λ (r : Ran). Stands j (r .state) t (S′ .ends) (S′ .rests) (S′ .queue) (S′ .last)) p st,
-      is ∙ ap (λ (r : Ran). records (r .state)) p,
-      pe ∙ ap (λ (r : Ran). endingNumber (r .ending)) p,
-      pn ∙ ap (λ (r : Ran). r .dequeues) p)
+  ends-in j s t rs′ S′ e n a p st is pe pn = (
+    subst (λ (r : Ran). Stands j (r .state) t (S′ .ends) (S′ .rests) (S′ .queue) (S′ .last)) p st,
+    is ∙ ap (λ (r : Ran). records (r .state)) p,
+    pe ∙ ap (λ (r : Ran). endingNumber (r .ending)) p,
+    pn ∙ ap (λ (r : Ran). r .dequeues) p,
+  )
 
   module _ (left : ℕ) (rs′ : List Assignment) (S′ : StateBuffers) (so-far : RunTo budget left B rs S rs′ S′) where
     -- nobody waits
@@ -256,3 +257,26 @@ module _ (budget : ℕ) (B : JobBuffers) (rs : List Assignment) (S : StateBuffer
                   (sym (from-over j (stateOf (dequeue j (l .before) v q)) (left - 1) (budget - (left - 1))) ∙ stepped j s t l _ y)
                   (l .stands) (l .records-are) refl refl;
             }
+
+-- what a decision reads is among what is lent to a run
+pub reads-of :
+    (maps cs cr us kinds sets : List ℕ) (sw : List Float) (sizes hs hr : List ℕ) (hw : List Float) (ss fs ts vs : List ℕ) (j : Job)
+    → JobStands j (lentJob maps cs cr us kinds sets sw sizes hs hr hw ss fs ts vs)
+    → JobReads j (reading maps cs cr us kinds sets sw hs hr hw ss fs ts vs)
+reads-of maps cs cr us kinds sets sw sizes hs hr hw ss fs ts vs j b =
+    record {
+      regs = b .reads .regs;
+      classStarts = b .reads .classStarts;
+      classRegs = b .reads .classRegs;
+      fixedUses = b .reads .fixedUses;
+      classes = b .reads .classes;
+      valueSets = b .reads .valueSets;
+      spillWeights = b .reads .spillWeights;
+      hintStarts = b .reads .hintStarts;
+      hintRegs = b .reads .hintRegs;
+      hintWeights = b .reads .hintWeights;
+      segmentStarts = b .reads .segmentStarts;
+      froms = b .reads .froms;
+      tos = b .reads .tos;
+      values = b .reads .values;
+    }
