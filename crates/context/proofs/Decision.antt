@@ -9,13 +9,13 @@ use lib.Dec.{T, eqb}
 use lib.Ieee.{Float, nan, inf, fin, ofBits, lt, eq}
 use lib.ListN.{length, getD, replicate, length-map, List·getD-append, List·getD-map}
 use borrow.Author.Tests.{ne-eqb}
+use Rattle.reg_matrix.proofs.Members.{getD-in}
 use Rattle.reg_matrix.specs.Lists.{first, count, padded}
 use Rattle.reg_matrix.proofs.Places.{padded-read, from-zero, count-length}
 use Rattle.job.specs.Model as model
 use Rattle.job.specs.Model.{Job, virtReg, noVirtReg, classOf}
 use Rattle.job.specs.Layout.{JobBuffers, jobBuffers}
 use Rattle.job.proofs.Premises.{IsNumber, Plain}
-use Rattle.job.proofs.Lists.{getD-in}
 use Rattle.allocator.specs.State.{State, heldBy, isLeftOver, flag, lastGiven, assignment, recordOf, records}
 use Rattle.allocator.specs.declared.Assignment.{Assignment}
 use Rattle.allocator.specs.declared.CandidateReg.{CandidateReg}
