@@ -1,0 +1,3 @@
+// Direct calls on a loaded stage: a number is placed in a register that the caller names, or evicted. A refusal returns its number and changes
+// nothing.
+pub mod refusals;
