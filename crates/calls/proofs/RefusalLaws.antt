@@ -136,6 +136,19 @@ bad-bits b = go (leb 0x7F80_0000 b) refl
 pub has-all : (r : ℕ) (xs ys : List ℕ) → xs ≡ ys → has r (take (length xs) xs) ≡ has r ys
 has-all r xs ys e = ap (has r) (take-all (length xs) xs (omega arith) ∙ e)
 
+-- by what the code finds
+module _ (cs cr classes sets starts hints : List ℕ) (n v r kind : ℕ) (class : List ℕ) (h : Bool) (pk : kind ≡ getD classes v 0) (pc : class ≡ shareOf cs kind cr) (ph : h ≡ has r (take (length class) class)) where
+  class-names : h ≡ has r (shareOf cs (getD classes v 0) cr)
+  class-names = ph ∙ has-all r class _ pc ∙ ap (λ (k : ℕ). has r (shareOf cs k cr)) pk
+
+  pub named-class : h ≡ true → true ≡ namedIn cs cr classes sets starts hints n v r
+  unfolding namedIn
+  named-class e = rw (← class-names, e)
+
+  pub named-sets : h ≡ false → (t : ℕ) (x : Bool) → t ≡ getD sets v 0 → x ≡ any (hintedAt sets starts hints t r) (count 0 n) → x ≡ namedIn cs cr classes sets starts hints n v r
+  unfolding namedIn
+  named-sets e t x pt px = rw (← class-names, e) (px ∙ ap (λ (t : ℕ). any (hintedAt sets starts hints t r) (count 0 n)) pt)
+
 -- the numbers from here on are the rest of the whole
 module _ (p : ℕ → Bool) (n i : ℕ) where
   pub any-more : i < n → any p (count i (n - i)) ≡ (p i || any p (count (i + 1) (n - (i + 1))))
