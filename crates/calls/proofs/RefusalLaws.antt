@@ -53,6 +53,11 @@ pub or-same : (a c b d : Bool) → a ≡ c → (T (not a) → b ≡ d) → (a ||
 or-same true c b d e f = rw (← e)
 or-same false c b d e f = rw (← e) (f tt)
 
+-- the first test refuses
+pub refused-first : (n : ℕ) (b : Bool) (ts : List Test) → b ≡ true → numberOf (refusal (n if b ∷ ts)) ≡ n
+unfolding refusal
+refused-first n b ts e = rw e
+
 -- no test's number is 0, and so 0 says that no test refused
 pub none-more : (n : ℕ) (b : Bool) (ts : List Test) → (numberOf (refusal ts) ≡ 0 → refusal ts ≡ none) → numberOf (refusal (suc n if b ∷ ts)) ≡ 0 → refusal (suc n if b ∷ ts) ≡ none
 unfolding refusal
@@ -119,8 +124,11 @@ bad-above b h = ⊎-elim (λ e. subst (λ (n : ℕ). T (badWeight (ofBits binary
         not-number t =
             rw (bad-nan (ofBits binary32 b) (sym (nanBits-is binary32 b) ∙ nan-bits b (nleb→lt 2147483648 b t) ∙ lt-ltb 0x7F80_0000 b l)) tt
 
+pub not-nan : (b : ℕ) → b < 0x7F80_0000 → nanBits binary32 b ≡ false
+not-nan b h = nan-bits b (omega arith) ∙ le-ltb 0x7F80_0000 b (omega arith)
+
 good-below : (b : ℕ) → b < 0x7F80_0000 → T (not (badHintBits b))
-good-below b h = rw (lt-leb 2147483648 b (omega arith), nan-bits b (omega arith), le-ltb 0x7F80_0000 b (omega arith), ne-eqb b 0x7F80_0000 (λ e. omega arith)) tt
+good-below b h = rw (lt-leb 2147483648 b (omega arith), not-nan b h, ne-eqb b 0x7F80_0000 (λ e. omega arith)) tt
 
 -- refusal 9 by the bits: infinity's and all above
 pub bad-bits : (b : ℕ) → leb 0x7F80_0000 b ≡ badWeight (ofBits binary32 b)
