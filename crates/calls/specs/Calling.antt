@@ -1,0 +1,134 @@
+-- What a direct call answers and leaves in what is lent (document 01, "Order", "What the stage answers"). Assumes nothing.
+use Prim.Native.Nat.{ℕ}
+use mathlib.Core.Path.{_≡_}
+use mathlib.Core.List.{List, [], _∷_}
+use mathlib.Core.Bool.{true}
+use lib.Ieee.{Float, binary32, ofBits}
+use lib.ListN.{length}
+use Rattle.reg_matrix.specs.Refusals.{refusal, shortBuffer}
+use Rattle.job.specs.Model.{Job}
+use Rattle.job.specs.Layout.{JobBuffers, headerOf}
+use Rattle.job.specs.declared.JobHeader.{JobHeader}
+use Rattle.allocator.specs.declared.Assignment.{Assignment}
+use Rattle.allocator.specs.State.{State, records}
+use Rattle.allocator.specs.Layout.{StateBuffers, stageLimits}
+use Rattle.allocator.specs.Calls.{Call, placing, evicting, Answer, refused, placed, evicted, ended, answerOf, after}
+use Rattle.allocator.specs.Reached.{Reached}
+use Rattle.context.specs.Standing.{JobStands, Stands}
+use Rattle.calls.specs.Testing.{numberOf, namedIn, unknownIn, clearAt, placeTests}
+
+-- ---- an answer in numbers
+
+-- 01, "What the stage answers": "A refusal returns its number alone"; 0 where the call is carried out
+abbrev pub refusalNumber : Answer → ℕ
+refusalNumber (refused n) = n
+refusalNumber (placed r) = 0
+refusalNumber (evicted r) = 0
+refusalNumber (ended e n) = 0
+
+-- the register given or taken away
+abbrev pub valueNumber : Answer → ℕ
+valueNumber (refused n) = 0
+valueNumber (placed r) = r
+valueNumber (evicted r) = r
+valueNumber (ended e n) = n
+
+-- ---- what is lent
+
+abbrev pub lentJob : List ℕ → List ℕ → List ℕ → List ℕ → List ℕ → List ℕ → List Float → List ℕ → List ℕ → List ℕ → List Float → List ℕ → List ℕ → List ℕ → List ℕ → JobBuffers
+lentJob maps cs cr us kinds sets sw zs hs hr hw ss fs ts vs =
+    record {
+      regs = maps;
+      classStarts = cs;
+      classRegs = cr;
+      fixedUses = us;
+      classes = kinds;
+      valueSets = sets;
+      spillWeights = sw;
+      sizes = zs;
+      hintStarts = hs;
+      hintRegs = hr;
+      hintWeights = hw;
+      segmentStarts = ss;
+      froms = fs;
+      tos = ts;
+      values = vs;
+    }
+
+abbrev pub lentState : List ℕ → List ℕ → List ℕ → List ℕ → StateBuffers
+lentState es rs qs ls = record { ends = es; rests = rs; queue = qs; last = ls }
+
+-- the sizes of what is lent, in the order of the limits
+abbrev pub sizesOf : JobBuffers → StateBuffers → List ℕ
+sizesOf B S =
+    length (B .regs)
+    ∷ length (B .classStarts)
+    ∷ length (B .classRegs)
+    ∷ length (B .fixedUses)
+    ∷ length (B .classes)
+    ∷ length (B .valueSets)
+    ∷ length (B .spillWeights)
+    ∷ length (B .sizes)
+    ∷ length (B .hintStarts)
+    ∷ length (B .hintRegs)
+    ∷ length (B .hintWeights)
+    ∷ length (B .segmentStarts)
+    ∷ length (B .froms)
+    ∷ length (B .tos)
+    ∷ length (B .values)
+    ∷ length (S .ends)
+    ∷ length (S .rests)
+    ∷ length (S .queue)
+    ∷ length (S .last)
+    ∷ []
+
+-- the state s stands in the slices and in the records
+pub record StateStands (j : Job) (s : State) (t : StateBuffers) (S : StateBuffers) (rs : List Assignment) : Type 0 where
+  pub stands : Stands j s t (S .ends) (S .rests) (S .queue) (S .last)
+  pub records-are : rs ≡ records s
+
+-- ---- the calls
+
+-- the refusal of a placement by what is lent and the record of v, or 0
+unfoldable pub placeAnswer : JobHeader → JobBuffers → ℕ → ℕ → ℕ → StateBuffers → Assignment → ℕ
+placeAnswer header B v reg bits S a =
+    numberOf
+    (refusal
+    (placeTests (shortBuffer stageLimits (sizesOf B S))
+    (unknownIn (header .«virt_regs») (header .regs) v reg (namedIn (B .classStarts) (B .classRegs) (B .classes) (B .valueSets) (B .hintStarts) (B .hintRegs) (header .«virt_regs») v reg))
+    bits a
+    (clearAt (B .regs) (B .fixedUses) (B .segmentStarts) (B .froms) (B .tos) (B .values) (S .ends) (S .rests) v reg)))
+
+-- slices and records are as they were
+pub record Unchanged (S : StateBuffers) (rs : List Assignment) (S′ : StateBuffers) (rs′ : List Assignment) : Type 0 where
+  pub slices : S′ ≡ S
+  pub records-too : rs′ ≡ rs
+
+-- A call c that answered n, from S and rs to S′ and rs′. Of any content: a short buffer is refused with 15, and what is refused changes nothing. On a
+-- state that calls reach: the answer is the definition's, and the state that the definition gives stands there afterwards.
+pub record Called (header : JobHeader) (B : JobBuffers) (c : Call) (S : StateBuffers) (rs : List Assignment) (S′ : StateBuffers) (rs′ : List Assignment) (n : ℕ) : Type 0 where
+  pub short : shortBuffer stageLimits (sizesOf B S) ≡ true → n ≡ 15
+  pub unchanged : (n ≡ 0 → ⊥) → Unchanged S rs S′ rs′
+  pub reached :
+      (j : Job) (s : State) (t : StateBuffers)
+      → Reached j s
+      → JobStands j B
+      → header ≡ headerOf j
+      → StateStands j s t S rs
+      → (n ≡ refusalNumber (answerOf j s c)) × StateStands j (after j s c) t S′ rs′
+
+-- a direct placement of v in the register with the weight of these bits
+abbrev pub Placed : JobHeader → JobBuffers → ℕ → ℕ → ℕ → StateBuffers → List Assignment → StateBuffers → List Assignment → ℕ → Type 0
+Placed header B v reg bits S rs S′ rs′ n = Called header B (placing (sizesOf B S) v reg (ofBits binary32 bits)) S rs S′ rs′ n
+
+-- a direct eviction of v, which answered the register r too
+pub record Evicted (header : JobHeader) (B : JobBuffers) (v : ℕ) (S : StateBuffers) (rs : List Assignment) (S′ : StateBuffers) (rs′ : List Assignment) (n r : ℕ) : Type 0 where
+  pub nothing : (n ≡ 0 → ⊥) → r ≡ 0
+  pub called : Called header B (evicting (sizesOf B S) v) S rs S′ rs′ n
+  pub taken-away :
+      (j : Job) (s : State) (t : StateBuffers)
+      → Reached j s
+      → JobStands j B
+      → header ≡ headerOf j
+      → StateStands j s t S rs
+      → r ≡ valueNumber (answerOf j s (evicting (sizesOf B S) v))

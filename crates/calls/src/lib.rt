@@ -1,0 +1,4 @@
+// Direct calls on a loaded stage: a number is placed in a register that the caller names, or evicted. A refusal returns its number and changes
+// nothing.
+pub mod direct;
+pub mod refusals;
