@@ -182,10 +182,11 @@ module _ (header : JobHeader) (B : JobBuffers) (v reg bits : ℕ) (S : StateBuff
           unchanged = λ x. absurd (x z);
           reached =
               λ j s t r jb h st.
-              let q = placeable j s t r jb h st z in
-              (place-number j s t r jb h st ∙ answer-number j s placeCall,
-              subst (λ (u : State). StateStands j u t (lentState ends′ rests′ queue′ last′) rs′) (sym (after-accepted j s placeCall q))
-              (given j s t r jb st (placing-accepted j s (sizesOf B S) v reg (ofBits binary32 bits) .0 q)));
+              let q = placeable j s t r jb h st z in (
+                place-number j s t r jb h st ∙ answer-number j s placeCall,
+                subst (λ (u : State). StateStands j u t (lentState ends′ rests′ queue′ last′) rs′) (sym (after-accepted j s placeCall q))
+                    (given j s t r jb st (placing-accepted j s (sizesOf B S) v reg (ofBits binary32 bits) .0 q)),
+              );
         }
 
 -- ---- evicting
@@ -276,10 +277,11 @@ module _ (header : JobHeader) (B : JobBuffers) (v : ℕ) (S : StateBuffers) (rs 
                     λ j s t r jb h st.
                     let q = evictable j s t r jb h st z in
                     let k = evicting-accepted j s (sizesOf B S) v .0 q in
-                    let c = is-some (heldBy s v) (k .assigned) in
-                    (evict-number j s t r jb h st ∙ answer-number j s evictCall,
-                    subst (λ (u : State). StateStands j u t (lentState ends′ rests′ queue′ (S .last)) rs′) (sym (after-accepted j s evictCall q ∙ evict-held j s v (c .0) (c .1)))
-                    (lost j s t r jb st (k .known) (c .0) (c .1)));
+                    let c = is-some (heldBy s v) (k .assigned) in (
+                      evict-number j s t r jb h st ∙ answer-number j s evictCall,
+                      subst (λ (u : State). StateStands j u t (lentState ends′ rests′ queue′ (S .last)) rs′) (sym (after-accepted j s evictCall q ∙ evict-held j s v (c .0) (c .1)))
+                          (lost j s t r jb st (k .known) (c .0) (c .1)),
+                    );
               };
           taken-away =
               λ j s t r jb h st.
