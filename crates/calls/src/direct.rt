@@ -226,8 +226,9 @@ pub fn assign(
         queue,
         last,
     );
+    let flag = flag_of(a);
     let placed = Assignment::Assigned {
-        evicted_for_preference: flag_of(a),
+        evicted_for_preference: flag,
         reg,
         preference_weight: weight_of(weight),
     };
@@ -287,10 +288,10 @@ pub fn evict(
         queue.len(),
         last.len(),
     );
-    let refusal = evict_refusal(short, a, header.virt_regs, v);
-    *answer = refusal;
+    let refused = evict_refusal(short, a, header.virt_regs, v);
+    *answer = refused;
     *taken = 0;
-    if refusal != 0 {
+    if refused != 0 {
         return records;
     }
     let reg = reg_of(a);
