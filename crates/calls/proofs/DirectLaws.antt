@@ -33,7 +33,8 @@ use Rattle.context.specs.Standing.{JobStands, Stands}
 use Rattle.context.specs.Carrying.{TakeReads, EvictReads, Taken, TakenBack}
 use Rattle.context.proofs.Decision.{search-lent}
 use Rattle.calls.specs.Testing.{numberOf, regIn, namedIn, unknownIn, clearAt, placeTests, evictTests}
-use Rattle.calls.specs.Calling.{refusalNumber, valueNumber, lentState, sizesOf, StateStands, placeAnswer, Unchanged, Called, Placed, Evicted}
+use Rattle.context.specs.Running.{lentState}
+use Rattle.calls.specs.Calling.{refusalNumber, valueNumber, sizesOf, StateStands, placeAnswer, Unchanged, Called, Placed, Evicted}
 use Rattle.calls.proofs.RefusalLaws.{none-placing, none-evicting, named-read, clear-read, bad-bits, held-is, placing-tests, evicting-tests, refused-first}
 
 -- ---- any call

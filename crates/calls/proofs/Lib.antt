@@ -1,3 +1,4 @@
 pub mod RefusalLaws
 pub mod DirectLaws
 pub mod Traces
+pub mod RunCalls

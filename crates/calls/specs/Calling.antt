@@ -12,9 +12,11 @@ use Rattle.job.specs.declared.JobHeader.{JobHeader}
 use Rattle.allocator.specs.declared.Assignment.{Assignment}
 use Rattle.allocator.specs.State.{State, records}
 use Rattle.allocator.specs.Layout.{StateBuffers, stageLimits}
-use Rattle.allocator.specs.Calls.{Call, placing, evicting, Answer, refused, placed, evicted, ended, answerOf, after}
+use Rattle.allocator.specs.Calls.{Call, placing, evicting, running, Answer, refused, placed, evicted, ended, answerOf, after}
 use Rattle.allocator.specs.Reached.{Reached}
+use Rattle.allocator.specs.Run.{run}
 use Rattle.context.specs.Standing.{JobStands, Stands}
+use Rattle.context.specs.Running.{endingNumber}
 use Rattle.calls.specs.Testing.{numberOf, namedIn, unknownIn, clearAt, placeTests}
 
 -- ---- an answer in numbers
@@ -34,29 +36,6 @@ valueNumber (evicted r) = r
 valueNumber (ended e n) = n
 
 -- ---- what is lent
-
-abbrev pub lentJob : List ℕ → List ℕ → List ℕ → List ℕ → List ℕ → List ℕ → List Float → List ℕ → List ℕ → List ℕ → List Float → List ℕ → List ℕ → List ℕ → List ℕ → JobBuffers
-lentJob maps cs cr us kinds sets sw zs hs hr hw ss fs ts vs =
-    record {
-      regs = maps;
-      classStarts = cs;
-      classRegs = cr;
-      fixedUses = us;
-      classes = kinds;
-      valueSets = sets;
-      spillWeights = sw;
-      sizes = zs;
-      hintStarts = hs;
-      hintRegs = hr;
-      hintWeights = hw;
-      segmentStarts = ss;
-      froms = fs;
-      tos = ts;
-      values = vs;
-    }
-
-abbrev pub lentState : List ℕ → List ℕ → List ℕ → List ℕ → StateBuffers
-lentState es rs qs ls = record { ends = es; rests = rs; queue = qs; last = ls }
 
 -- the sizes of what is lent, in the order of the limits
 abbrev pub sizesOf : JobBuffers → StateBuffers → List ℕ
@@ -132,3 +111,15 @@ pub record Evicted (header : JobHeader) (B : JobBuffers) (v : ℕ) (S : StateBuf
       → header ≡ headerOf j
       → StateStands j s t S rs
       → r ≡ valueNumber (answerOf j s (evicting (sizesOf B S) v))
+
+-- a run with a budget, which answered its word's number and its dequeues too; it needs no header
+pub record RunCalled (B : JobBuffers) (budget : ℕ) (S : StateBuffers) (rs : List Assignment) (S′ : StateBuffers) (rs′ : List Assignment) (n ending dequeues : ℕ) : Type 0 where
+  pub nothing : (n ≡ 0 → ⊥) → (ending ≡ 0) × (dequeues ≡ 0)
+  pub called : (header : JobHeader) → Called header B (running (sizesOf B S) budget) S rs S′ rs′ n
+  pub ended-so :
+      (j : Job) (s : State) (t : StateBuffers)
+      → Reached j s
+      → JobStands j B
+      → StateStands j s t S rs
+      → n ≡ 0
+      → (ending ≡ endingNumber (run j budget s .ending)) × (dequeues ≡ run j budget s .dequeues)
