@@ -10,6 +10,7 @@ use lib.Ieee.{Float, binary32, ofBits}
 use lib.ListN.{length, getD, set}
 use Rattle.reg_matrix.specs.Lists.{isSome}
 use Rattle.reg_matrix.specs.Refusals.{refusal, shortBuffer}
+use Rattle.matrix.specs.Walk.{refusalNumber as numberOf}
 use Rattle.job.specs.Model.{Job}
 use Rattle.job.specs.Layout.{JobBuffers, headerOf}
 use Rattle.job.specs.declared.JobHeader.{JobHeader}
@@ -32,7 +33,7 @@ use Rattle.context.specs.Deciding.{flagIn}
 use Rattle.context.specs.Standing.{JobStands, Stands}
 use Rattle.context.specs.Carrying.{TakeReads, EvictReads, Taken, TakenBack}
 use Rattle.context.proofs.Decision.{search-lent}
-use Rattle.calls.specs.Testing.{numberOf, regIn, namedIn, unknownIn, clearAt, placeTests, evictTests}
+use Rattle.calls.specs.Testing.{regIn, namedIn, unknownIn, clearAt, placeTests, evictTests}
 use Rattle.context.specs.Running.{lentState}
 use Rattle.calls.specs.Calling.{refusalNumber, valueNumber, sizesOf, StateStands, placeAnswer, Unchanged, Called, Placed, Evicted}
 use Rattle.calls.proofs.RefusalLaws.{none-placing, none-evicting, named-read, clear-read, bad-bits, held-is, placing-tests, evicting-tests, refused-first}

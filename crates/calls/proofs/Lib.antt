@@ -2,3 +2,4 @@ pub mod RefusalLaws
 pub mod DirectLaws
 pub mod Traces
 pub mod RunCalls
+pub mod QuestionLaws

@@ -18,6 +18,7 @@ use Rattle.reg_matrix.specs.Lists.{any, has, count, isNil, isSome}
 use Rattle.reg_matrix.specs.Refusals.{Test, refusal, _if_, shortBuffer}
 use Rattle.reg_matrix.proofs.Tests.{same-test, eqb-in, passes-or-not}
 use Rattle.reg_matrix.specs.declared.Interference.{Interference}
+use Rattle.matrix.specs.Walk.{refusalNumber as numberOf}
 use Rattle.job.specs.declared.Hint.{Hint}
 use Rattle.job.specs.Model as model
 use Rattle.job.specs.Model.{Job, noVirtReg, virtReg}
@@ -39,7 +40,7 @@ use Rattle.context.specs.Deciding.{shareOf, lentTo, classIn}
 use Rattle.context.specs.Standing.{JobReads, TableStands}
 use Rattle.context.proofs.Shares.{hint-regs-share}
 use Rattle.context.proofs.Decision.{field-read, laid-out, search-lent, class-is}
-use Rattle.calls.specs.Testing.{numberOf, isFree, isHeld, regIn, hintedAt, namedIn, unknownIn, clearAt, placeTests, evictTests}
+use Rattle.calls.specs.Testing.{isFree, isHeld, regIn, hintedAt, namedIn, unknownIn, clearAt, placeTests, evictTests}
 
 -- ---- lists of tests
 

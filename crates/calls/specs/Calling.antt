@@ -6,6 +6,7 @@ use mathlib.Core.Bool.{true}
 use lib.Ieee.{Float, binary32, ofBits}
 use lib.ListN.{length}
 use Rattle.reg_matrix.specs.Refusals.{refusal, shortBuffer}
+use Rattle.matrix.specs.Walk.{refusalNumber as numberOf}
 use Rattle.job.specs.Model.{Job}
 use Rattle.job.specs.Layout.{JobBuffers, headerOf}
 use Rattle.job.specs.declared.JobHeader.{JobHeader}
@@ -17,7 +18,7 @@ use Rattle.allocator.specs.Reached.{Reached}
 use Rattle.allocator.specs.Run.{run}
 use Rattle.context.specs.Standing.{JobStands, Stands}
 use Rattle.context.specs.Running.{endingNumber}
-use Rattle.calls.specs.Testing.{numberOf, namedIn, unknownIn, clearAt, placeTests}
+use Rattle.calls.specs.Testing.{namedIn, unknownIn, clearAt, placeTests}
 
 -- ---- an answer in numbers
 

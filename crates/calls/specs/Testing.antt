@@ -1,7 +1,6 @@
 -- The tests of a direct call in the shape of the code of src/refusals.rt, over what is lent. Laws in proofs/ tie them to Calls.antt. Assumes nothing.
 use Prim.Native.Nat.{ℕ}
 use mathlib.Core.List.{List, [], _∷_}
-use mathlib.Core.Option.{Option, none, some}
 use mathlib.Core.Bool.{Bool, true, false, not, _&&_, _||_}
 use lib.Dec.{leb, eqb}
 use lib.ListN.{getD}
@@ -12,11 +11,6 @@ use Rattle.allocator.specs.declared.Assignment.{Assignment}
 use Rattle.allocator.specs.declared.Assignment.the-variants.{Assigned, Unassigned, Dead}
 use Rattle.stage.specs.AllocateWalk.{reportsOn}
 use Rattle.context.specs.Deciding.{shareOf}
-
--- a refusal's number, or 0
-abbrev pub numberOf : Option ℕ → ℕ
-numberOf none = 0
-numberOf (some n) = n
 
 -- what a record says
 abbrev pub isFree : Assignment → Bool
