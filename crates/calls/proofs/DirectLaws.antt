@@ -1,5 +1,5 @@
 -- Direct calls: what is refused leaves all as it was, and on a state that calls reach what is carried out leaves the state of the rules. Assumes nothing.
-use Prim.Native.Nat.{ℕ, _<_}
+use Prim.Native.Nat.{ℕ, _≤_, _<_}
 use native.Mathlib.Omega.{arith}
 use mathlib.Core.Path.{_≡_, refl, sym, ap, _∙_, subst}
 use mathlib.Core.List.{List, _++_}
@@ -7,9 +7,11 @@ use mathlib.Core.Option.{Option, none, some}
 use mathlib.Core.Bool.{Bool, true, false, not}
 use lib.Dec.{T, leb, nleb→lt}
 use lib.Ieee.{Float, binary32, ofBits}
-use lib.ListN.{length, getD, set}
+use lib.ListN.{length, getD, set, List·getD-eq-default}
 use Rattle.reg_matrix.specs.Lists.{isSome}
 use Rattle.reg_matrix.specs.Refusals.{refusal, shortBuffer}
+use Rattle.lent.proofs.Laws.{any-default}
+use Rattle.reg_matrix.proofs.Places.{from-zero}
 use Rattle.matrix.specs.Walk.{refusalNumber as numberOf}
 use Rattle.job.specs.Model.{Job}
 use Rattle.job.specs.Layout.{JobBuffers, headerOf}
@@ -23,19 +25,16 @@ use Rattle.allocator.specs.Order.{candidate}
 use Rattle.allocator.specs.Layout.{StateBuffers, stageLimits, lastWords}
 use Rattle.allocator.specs.Calls.{Call, placing, evicting, running, badWeight, refusalOf, carriedOut, unlessRefused, after, accepted, orRefused, answerOf, regOf}
 use Rattle.allocator.specs.Reached.{Reached}
-use Rattle.allocator.proofs.Accepted.{Placeable, placing-accepted, Evictable, evicting-accepted}
+use Rattle.allocator.proofs.Accepted.{all-pass, Placeable, placing-accepted, Evictable, evicting-accepted}
 use Rattle.allocator.proofs.Good.{Good, good-reached, placeable-idle}
 use Rattle.allocator.proofs.Records.{holder-stays, held-record, idle-record, give-records, lose-records, lose-last}
-use Rattle.stage.specs.EvictWalk.{noRecord}
 use Rattle.stage.proofs.ReachedMoves.{evict-held}
-use Rattle.stage.proofs.ReachedSearch.{record-read}
 use Rattle.context.specs.Deciding.{flagIn}
 use Rattle.context.specs.Standing.{JobStands, Stands}
 use Rattle.context.specs.Carrying.{TakeReads, EvictReads, Taken, TakenBack}
-use Rattle.context.proofs.Decision.{search-lent}
 use Rattle.calls.specs.Testing.{regIn, namedIn, unknownIn, clearAt, placeTests, evictTests}
-use Rattle.calls.specs.Calling.{refusalNumber, valueNumber, lentState, sizesOf, StateStands, placeAnswer, Unchanged, Called, Placed, Evicted}
-use Rattle.calls.proofs.RefusalLaws.{none-placing, none-evicting, named-read, clear-read, bad-bits, held-is, placing-tests, evicting-tests, refused-first}
+use Rattle.calls.specs.Calling.{refusalNumber, valueNumber, lentState, sizesOf, StateStands, placeAnswer, evictAnswer, Unchanged, Called, Placed, Evicted}
+use Rattle.calls.proofs.RefusalLaws.{none-placing, none-evicting, named-read, clear-read, held-is, placing-tests, evicting-tests, refused-first}
 
 -- ---- any call
 
@@ -73,14 +72,21 @@ module _ (j : Job) (s : State) (c : Call) where
       go (some n) f = refl
       go none f = absurd (f refl)
 
--- the record that was read
-module _ (B : JobBuffers) (v : ℕ) (S : StateBuffers) (rs : List Assignment) (a : Assignment) (read : v < 512 → a ≡ getD rs v noRecord) where
+-- ---- the record of v
+
+-- a place past the records, and one inside
+pub record-past : (rs : List Assignment) (v : ℕ) → length rs ≡ 512 → 512 ≤ v → Dead ≡ getD rs v Dead
+record-past rs v l h = let m : length rs ≤ v = omega (arith, l, h) in sym (List·getD-eq-default rs Dead {n = v} m)
+
+pub record-inside : (rs : List Assignment) (v : ℕ) (d : Assignment) → length rs ≡ 512 → v < 512 → getD rs v d ≡ getD rs v Dead
+record-inside rs v d l h = any-default rs v d Dead (omega (arith, l, h))
+
+-- it was read on a state that calls reach
+module _ (B : JobBuffers) (v : ℕ) (S : StateBuffers) (rs : List Assignment) (a : Assignment) (read : a ≡ getD rs v Dead) where
   read-record : (j : Job) (s : State) (t : StateBuffers) → Good j s → JobStands j B → StateStands j s t S rs → IsNumber j v → a ≡ recordOf s v
+  unfolding records
   read-record j s t g jb st b =
-      let k : v < 512 = omega (arith, b, g .premises .few-numbers) in
-      read k
-      ∙ ap (λ (l : List Assignment). getD l v noRecord) (st .records-are)
-      ∙ record-read j s g (B .regs) (records s) (B .spillWeights) (search-lent j s g B (jb .reads) v b) v k
+      read ∙ ap (λ (l : List Assignment). getD l v Dead) (st .records-are) ∙ from-zero (recordOf s) Dead 512 v (omega (arith, b, g .premises .few-numbers))
 
 -- ---- placing
 
@@ -100,7 +106,7 @@ pub place-answered :
 unfolding placeAnswer
 place-answered header B v reg bits S a lends pl n pn = rw (← pl) pn
 
-module _ (header : JobHeader) (B : JobBuffers) (v reg bits : ℕ) (S : StateBuffers) (rs : List Assignment) (a : Assignment) (read : v < 512 → a ≡ getD rs v noRecord) (n : ℕ) (is : n ≡ placeAnswer header B v reg bits S a) where
+module _ (header : JobHeader) (B : JobBuffers) (v reg bits : ℕ) (S : StateBuffers) (rs : List Assignment) (a : Assignment) (read : a ≡ getD rs v Dead) (n : ℕ) (is : n ≡ placeAnswer header B v reg bits S a) where
   abbrev names : Bool
   names = namedIn (B .classStarts) (B .classRegs) (B .classes) (B .valueSets) (B .hintStarts) (B .hintRegs) (header .«virt_regs») v reg
 
@@ -133,16 +139,32 @@ module _ (header : JobHeader) (B : JobBuffers) (v reg bits : ℕ) (S : StateBuff
     unfolding placeAnswer
     placeable z = sym place-tests-are ∙ none-placing (shortBuffer stageLimits (sizesOf B S)) (unknownIn (header .«virt_regs») (header .regs) v reg names) bits a clear (sym is ∙ z)
 
+  place-decided : n ≡ placeAnswer header B v reg bits S (getD rs v Dead)
+  place-decided = is ∙ ap (placeAnswer header B v reg bits S) read
+
   pub placing-refused : (n ≡ 0 → ⊥) → Placed header B v reg bits S rs S rs n
   placing-refused z =
       record {
-        short = short-placing;
-        unchanged = λ _. record { slices = refl; records-too = refl };
-        reached =
-            λ j s t r jb h st.
-            let e = place-number j s t r jb h st in
-            (e ∙ answer-number j s placeCall, subst (λ (u : State). StateStands j u t S rs) (sym (after-refused j s placeCall (λ q. z (e ∙ q)))) st);
+        answer = place-decided;
+        recorded = λ q. absurd (z q);
+        called =
+            record {
+              short = short-placing;
+              unchanged = λ _. record { slices = refl; records-too = refl };
+              reached =
+                  λ j s t r jb h st.
+                  let e = place-number j s t r jb h st in
+                  (e ∙ answer-number j s placeCall, subst (λ (u : State). StateStands j u t S rs) (sym (after-refused j s placeCall (λ q. z (e ∙ q)))) st);
+            };
       }
+
+  -- a placement that is carried out has a weight
+  place-weight : n ≡ 0 → bits < 0x7F80_0000
+  unfolding placeAnswer
+  place-weight z =
+      let a15 = all-pass 15 (shortBuffer stageLimits (sizesOf B S)) _ (none-placing (shortBuffer stageLimits (sizesOf B S)) (unknownIn (header .«virt_regs») (header .regs) v reg names) bits a clear (sym is ∙ z)) in
+      let a8 = all-pass 8 (unknownIn (header .«virt_regs») (header .regs) v reg names) _ (a15 .1) in
+      nleb→lt 0x7F80_0000 bits (all-pass 9 (leb 0x7F80_0000 bits) _ (a8 .1) .0)
 
   module _ (z : n ≡ 0) (ends′ rests′ queue′ last′ : List ℕ)
       (tk : Taken v reg (B .regs) (B .fixedUses) (B .valueSets) (B .segmentStarts) (B .froms) (B .tos) (S .ends) (S .rests) (S .queue) (S .last) ends′ rests′ queue′ last′)
@@ -153,7 +175,6 @@ module _ (header : JobHeader) (B : JobBuffers) (v reg bits : ℕ) (S : StateBuff
         let g = good-reached j s r in
         let i = placeable-idle j s g (sizesOf B S) v reg (ofBits binary32 bits) k in
         let c = candidate reg (ofBits binary32 bits) in
-        let w-is = pw (nleb→lt 0x7F80_0000 bits (subst (λ (b : Bool). T (not b)) (sym (bad-bits bits)) (k .weight))) in
         let f-is : f ≡ flag s v = pf ∙ ap flagIn (read-record B v S rs a read j s t g jb st (k .known) ∙ idle-record j s g v i) in
         record {
           stands =
@@ -171,7 +192,7 @@ module _ (header : JobHeader) (B : JobBuffers) (v reg bits : ℕ) (S : StateBuff
               pr
               ∙ ap (λ (l : List Assignment). set l v (Assigned f reg w)) (st .records-are)
               ∙ ap (λ (b : Bool). set (records s) v (Assigned b reg w)) f-is
-              ∙ ap (λ (x : Float). set (records s) v (Assigned (flag s v) reg x)) w-is
+              ∙ ap (λ (x : Float). set (records s) v (Assigned (flag s v) reg x)) (pw (place-weight z))
               ∙ sym (give-records j s g v (k .known) c false (i .stays));
         }
 
@@ -179,15 +200,23 @@ module _ (header : JobHeader) (B : JobBuffers) (v reg bits : ℕ) (S : StateBuff
     unfolding carriedOut
     placing-done =
         record {
-          short = short-placing;
-          unchanged = λ x. absurd (x z);
-          reached =
-              λ j s t r jb h st.
-              let q = placeable j s t r jb h st z in (
-                place-number j s t r jb h st ∙ answer-number j s placeCall,
-                subst (λ (u : State). StateStands j u t (lentState ends′ rests′ queue′ last′) rs′) (sym (after-accepted j s placeCall q))
-                    (given j s t r jb st (placing-accepted j s (sizesOf B S) v reg (ofBits binary32 bits) .0 q)),
-              );
+          answer = place-decided;
+          recorded =
+              λ _. pr
+              ∙ ap (λ (y : Bool). set rs v (Assigned y reg w)) (pf ∙ ap flagIn read)
+              ∙ ap (λ (x : Float). set rs v (Assigned (flagIn (getD rs v Dead)) reg x)) (pw (place-weight z));
+          called =
+              record {
+                short = short-placing;
+                unchanged = λ x. absurd (x z);
+                reached =
+                    λ j s t r jb h st.
+                    let q = placeable j s t r jb h st z in (
+                      place-number j s t r jb h st ∙ answer-number j s placeCall,
+                      subst (λ (u : State). StateStands j u t (lentState ends′ rests′ queue′ last′) rs′) (sym (after-accepted j s placeCall q))
+                          (given j s t r jb st (placing-accepted j s (sizesOf B S) v reg (ofBits binary32 bits) .0 q)),
+                    );
+              };
         }
 
 -- ---- evicting
@@ -196,7 +225,7 @@ is-some : {A : Type 0} (o : Option A) → T (isSome o) → (x : A) × (o ≡ som
 is-some none t = absurd t
 is-some (some x) t = (x, refl)
 
-module _ (header : JobHeader) (B : JobBuffers) (v : ℕ) (S : StateBuffers) (rs : List Assignment) (a : Assignment) (read : v < 512 → a ≡ getD rs v noRecord)
+module _ (header : JobHeader) (B : JobBuffers) (v : ℕ) (S : StateBuffers) (rs : List Assignment) (a : Assignment) (read : a ≡ getD rs v Dead)
     (lends : Bool) (pl : lends ≡ shortBuffer stageLimits (sizesOf B S)) (n : ℕ) (is : n ≡ numberOf (refusal (evictTests lends (leb (header .«virt_regs») v) a))) where
   abbrev evictCall : Call
   evictCall = evicting (sizesOf B S) v
@@ -217,9 +246,15 @@ module _ (header : JobHeader) (B : JobBuffers) (v : ℕ) (S : StateBuffers) (rs 
     evictable : n ≡ 0 → refusalOf j s evictCall ≡ none
     evictable z = sym evict-tests-are ∙ none-evicting lends _ a (sym is ∙ z)
 
+  evict-decided : n ≡ evictAnswer header B v S (getD rs v Dead)
+  unfolding evictAnswer
+  evict-decided = rw (← pl, ← read) is
+
   pub evicting-refused : (n ≡ 0 → ⊥) → Evicted header B v S rs S rs n 0
   evicting-refused z =
       record {
+        answer = evict-decided;
+        recorded = λ q. absurd (z q);
         nothing = λ _. refl;
         called =
             record {
@@ -269,6 +304,8 @@ module _ (header : JobHeader) (B : JobBuffers) (v : ℕ) (S : StateBuffers) (rs 
     unfolding carriedOut answerOf
     evicting-done =
         record {
+          answer = evict-decided;
+          recorded = λ _. (pr ∙ ap (λ (y : Bool). set rs v (Unassigned y)) (pf ∙ ap flagIn read), px ∙ pg ∙ ap regIn read);
           nothing = λ y. absurd (y z);
           called =
               record {
