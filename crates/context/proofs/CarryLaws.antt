@@ -36,13 +36,16 @@ use Rattle.allocator.proofs.Weights.{plain-zero}
 use Rattle.allocator.proofs.Holders.{same-or-not}
 use Rattle.allocator.proofs.Rebuilt.{named-known}
 use Rattle.allocator.proofs.Agrees.{Sizes, Candidate}
-use Rattle.allocator.proofs.Good.{Good, Idle, good-reached, holder-good}
+use Rattle.allocator.proofs.Good.{Good, Idle, good-reached, holder-good, reached-evict}
+use Rattle.allocator.proofs.Records.{assigned-held, not-assigned, holder-stays, lose-records, give-last}
 use Rattle.stage.specs.QueueWalk.{keyOf, setWord}
 use Rattle.stage.proofs.QueueLaws.{tournament-length, set-tournament, key-is, size-at, has-hints}
-use Rattle.stage.proofs.ReachedMoves.{table-stands, uses-lie, assign-gives, evict-loses}
+use Rattle.stage.proofs.ReachedMoves.{table-stands, uses-lie, assign-gives, evict-loses, evict-held, evict-nothing, evictMarked, marked-yes, marked-no, marked-end}
 use Rattle.context.specs.Standing.{Begins, TableStands, Moves, Stands}
-use Rattle.context.specs.Deciding.{shareOf}
-use Rattle.context.specs.Carrying.{EvictReads, TakeReads, TakenBack, Taken}
+use Rattle.context.specs.Deciding.{shareOf, members, flagIn, isHeld, regIn}
+use Rattle.stage.specs.EvictWalk.{recordWeight}
+use Rattle.context.specs.Carrying.{EvictReads, TakeReads, TakenBack, EvictedAll, Taken}
+use Rattle.allocator.specs.Dequeue.{evictAll}
 use Rattle.context.proofs.Shares.{froms-share, tos-share}
 
 -- ---- lists
@@ -51,26 +54,6 @@ module _ {A : Type 0} where
   -- what begins with n of them
   pub begins-take : (n : ℕ) (xs ys : List A) → length xs ≡ n → Begins xs ys → take n ys ≡ xs
   begins-take n xs ys e b = ap (take n) (b .1) ∙ take-at xs (b .0) n e
-
-  -- a store in a list over the numbers below n
-  pub set-numbers :
-      (f g : ℕ → A) (d : A) (n k : ℕ) (x : A)
-      → g k ≡ x
-      → ((i : ℕ) → (i ≡ k → ⊥) → g i ≡ f i)
-      → set (map f (count 0 n)) k x ≡ map g (count 0 n)
-  set-numbers f g d n k x here other =
-      ext-getD d (set (map f (count 0 n)) k x) (map g (count 0 n)) (length-set (map f (count 0 n)) k x ∙ size f ∙ sym (size g))
-      (λ i b. at i (omega (arith, length-set (map f (count 0 n)) k x, size f)) (same-or-not i k))
-    where
-      size : (h : ℕ → A) → length (map h (count 0 n)) ≡ n
-      size h = length-map (count 0 n) h ∙ count-length 0 n
-
-      at : (i : ℕ) → i < n → (i ≡ k) ⊎ (i ≡ k → ⊥) → getD (set (map f (count 0 n)) k x) i d ≡ getD (map g (count 0 n)) i d
-      at i l (inl e) =
-          ap (λ (m : ℕ). getD (set (map f (count 0 n)) k x) m d) e
-          ∙ getD-set-same (map f (count 0 n)) k x d (omega (arith, size f))
-          ∙ sym (ap (λ (m : ℕ). getD (map g (count 0 n)) m d) e ∙ from-zero g d n k (omega arith) ∙ here)
-      at i l (inr z) = getD-set-other (map f (count 0 n)) k i x d z ∙ from-zero f d n i l ∙ sym (from-zero g d n i l ∙ other i z)
 
 -- ---- the job's slices
 
@@ -132,26 +115,6 @@ module _ (j : Job) (s : State) (g : Good j s) where
         ∙ key-is j v q (ltb (getD hints v 0) (getD hints (v + 1) 0)) (has-hints j few hints sizes a b v known))
         ∙ word-set (some q) e
 
--- ---- records
-
-pub record-at : (s : State) (v : ℕ) (d : Assignment) → v < 512 → getD (records s) v d ≡ recordOf s v
-unfolding records
-record-at s v d h = from-zero (recordOf s) d 512 v h
-
--- a record stored in place of v's, where the others stay
-pub records-set : (s t : State) (v : ℕ) (a : Assignment) → recordOf t v ≡ a → ((i : ℕ) → (i ≡ v → ⊥) → recordOf t i ≡ recordOf s i) → set (records s) v a ≡ records t
-unfolding records
-records-set s t v a here other = set-numbers (recordOf s) (recordOf t) Dead 512 v a here other
-
--- all records stay
-pub records-same : (s t : State) → ((i : ℕ) → recordOf t i ≡ recordOf s i) → records s ≡ records t
-unfolding records
-records-same s t same = go (count 0 512)
-  where
-    go : (vs : List ℕ) → map (recordOf s) vs ≡ map (recordOf t) vs
-    go [] = refl
-    go (v ∷ vs) = ap (λ (a : Assignment). a ∷ map (recordOf s) vs) (sym (same v)) ∙ ap (λ (l : List Assignment). recordOf t v ∷ l) (go vs)
-
 -- ---- a number loses its register
 
 pub taken-back :
@@ -193,26 +156,15 @@ taken-back v reg maps uses sizes hints starts tos ends rests queue ends′ rests
 -- ---- a number takes a register
 
 -- the register is the last one of v's set
-last-set : (j : Job) (s : State) → Good j s → (v : ℕ) → IsNumber j v → (c : CandidateReg) (f : Bool) (lt last : List ℕ) → last ≡ lastWords s ++ lt → set last (virtReg j v .valueSet) (c .reg + 1) ≡ lastWords (give j v c f s) ++ lt
-unfolding lastWords give
+last-set : (j : Job) (s : State) (g : Good j s) (v : ℕ) → IsNumber j v → (c : CandidateReg) (f : Bool) (lt last : List ℕ) → last ≡ lastWords s ++ lt → set last (virtReg j v .valueSet) (c .reg + 1) ≡ lastWords (give j v c f s) ++ lt
+unfolding lastWords
 last-set j s g v known c f lt last is =
-    ap (λ (l : List ℕ). set l k (c .reg + 1)) is
-    ∙ set-append-left (map w (count 0 512)) lt k (c .reg + 1) (omega (arith, length-map (count 0 512) w, count-length 0 512, small))
-    ∙ ap (λ (l : List ℕ). l ++ lt)
-    (set-numbers w w′ 0 512 k (c .reg + 1) (ap lastWord (getD-set-same (s .last) k (some (c .reg)) none (omega (arith, small, g .agrees .sizes .last))))
-    (λ i z. ap lastWord (getD-set-other (s .last) k i (some (c .reg)) none z)))
+    ap (λ (l : List ℕ). set l (virtReg j v .valueSet) (c .reg + 1)) is
+    ∙ set-append-left (map w (count 0 512)) lt (virtReg j v .valueSet) (c .reg + 1) (omega (arith, length-map (count 0 512) w, count-length 0 512, g .premises .small-sets v known))
+    ∙ ap (λ (l : List ℕ). l ++ lt) (sym (give-last j s g v known c f))
   where
-    k : ℕ
-    k = virtReg j v .valueSet
-
-    small : k < 512
-    small = g .premises .small-sets v known
-
     w : ℕ → ℕ
     w t = lastWord (getD (s .last) t none)
-
-    w′ : ℕ → ℕ
-    w′ t = lastWord (getD (set (s .last) k (some (c .reg))) t none)
 
 pub taken :
     (v reg : ℕ) (maps uses sets starts froms tos ends rests queue last ends′ rests′ queue′ last′ from to : List ℕ) (m : ℕ) (r : Moved) (k w : ℕ)
@@ -267,3 +219,122 @@ taken v reg maps uses sets starts froms tos ends rests queue last ends′ rests�
     not-some : (o : Option CandidateReg) → T (not (isSome o)) → o ≡ none
     not-some none t = refl
     not-some (some c) t = absurd t
+
+-- ---- a set of numbers, one after another
+
+-- a record that holds a register, by its parts
+held-as : (a : Assignment) (f : Bool) (r : ℕ) → isHeld a ≡ true → f ≡ flagIn a → r ≡ regIn a → a ≡ Holds f r (recordWeight a)
+held-as (Holds g q w) f r y p e = ap (λ (b : Bool). Holds b q w) (sym p) ∙ ap (λ (n : ℕ). Holds f n w) (sym e)
+held-as (Unassigned g) f r y p e = absurd (subst (λ (x : Bool). T (not x)) y tt)
+held-as Dead f r y p e = absurd (subst (λ (x : Bool). T (not x)) y tt)
+
+-- those below i are done: the state then is x, and evicting the others from i on gives what evicting all gives
+pub record Onward (j : Job) (s : State) (t : StateBuffers) (i : ℕ) (gone : List Bool) (rs′ : List Assignment) (ends′ rests′ queue′ : List ℕ) : Type 0 where
+  pub x : State
+  pub reached : Reached j x
+  pub moves : Moves j x t ends′ rests′ queue′
+  pub records-are : rs′ ≡ records x
+  pub whole : evictMarked j gone i x i x ≡ evictAll j (members gone) s
+
+pub record EvictedTo (i : ℕ) (gone : List Bool) (rs : List Assignment) (maps uses sizes hints starts tos ends rests queue : List ℕ) (rs′ : List Assignment) (ends′ rests′ queue′ : List ℕ) : Type 0 where
+  pub onward :
+      (j : Job) (s : State) (t : StateBuffers)
+      → Reached j s
+      → EvictReads j maps uses sizes hints starts tos
+      → Moves j s t ends rests queue
+      → rs ≡ records s
+      → Onward j s t i gone rs′ ends′ rests′ queue′
+
+module _ (gone : List Bool) (rs : List Assignment) (maps uses sizes hints starts tos ends rests queue : List ℕ) where
+  abbrev To : ℕ → List Assignment → List ℕ → List ℕ → List ℕ → Type 0
+  To i rs′ ends′ rests′ queue′ = EvictedTo i gone rs maps uses sizes hints starts tos ends rests queue rs′ ends′ rests′ queue′
+
+  pub evict-start : To 0 rs ends rests queue
+  unfolding members
+  evict-start = record { onward = λ j s t reach e mv is. record { x = s; reached = reach; moves = mv; records-are = is; whole = refl } }
+
+  module _ (i : ℕ) (rs′ : List Assignment) (ends′ rests′ queue′ : List ℕ) (so-far : To i rs′ ends′ rests′ queue′) where
+    pub evict-end : 512 ≤ i → EvictedAll gone rs maps uses sizes hints starts tos ends rests queue rs′ ends′ rests′ queue′
+    evict-end h =
+        record {
+          reached =
+              λ j s t reach e mv is.
+              let o = so-far .onward j s t reach e mv is in
+              let all : o .x ≡ evictAll j (members gone) s = marked-end j gone i (o .x) h ∙ o .whole in
+              (subst (λ (x : State). Moves j x t ends′ rests′ queue′) all (o .moves), o .records-are ∙ ap records all);
+        }
+
+    -- i is not of the set
+    pub evict-pass : i < 512 → getD gone i false ≡ false → To (i + 1) rs′ ends′ rests′ queue′
+    evict-pass l n =
+        record {
+          onward =
+              λ j s t reach e mv is.
+              let o = so-far .onward j s t reach e mv is in
+              record { x = o .x; reached = o .reached; moves = o .moves; records-are = o .records-are; whole = marked-no j gone i (o .x) l n ∙ o .whole };
+        }
+
+    module _ (l : i < 512) (m : getD gone i false ≡ true) (a d : Assignment) (has : getD rs′ i d ≡ a) where
+      -- the record of i in a state whose records these are
+      own : (x : State) → rs′ ≡ records x → recordOf x i ≡ a
+      unfolding records
+      own x is = sym (from-zero (recordOf x) d 512 i l) ∙ sym (ap (λ (r : List Assignment). getD r i d) is) ∙ has
+
+      -- i holds nothing
+      pub evict-idle : isHeld a ≡ false → To (i + 1) rs′ ends′ rests′ queue′
+      evict-idle n =
+          record {
+            onward =
+                λ j s t reach e mv is.
+                let o = so-far .onward j s t reach e mv is in
+                let none-held = not-assigned j (o .x) (good-reached j (o .x) (o .reached)) i (λ f r w q. not-held (sym (own (o .x) (o .records-are)) ∙ q)) in
+                record {
+                  x = o .x;
+                  reached = o .reached;
+                  moves = o .moves;
+                  records-are = o .records-are;
+                  whole =
+                      ap (λ (y : State). evictMarked j gone i (o .x) (i + 1) y) (sym (evict-nothing j (o .x) i none-held))
+                      ∙ marked-yes j gone i (o .x) l m ∙ o .whole;
+                };
+          }
+        where
+          not-held : {f : Bool} {r : ℕ} {w : Float} → a ≡ Holds f r w → ⊥
+          not-held q = subst (λ (x : Bool). T (not x)) (sym n ∙ ap isHeld q) tt
+
+      -- i loses its register
+      pub evict-one :
+          (f : Bool) (reg : ℕ)
+          → isHeld a ≡ true
+          → f ≡ flagIn a
+          → reg ≡ regIn a
+          → (ends″ rests″ queue″ : List ℕ)
+          → TakenBack i reg maps uses sizes hints starts tos ends′ rests′ queue′ ends″ rests″ queue″
+          → (rs″ : List Assignment)
+          → rs″ ≡ set rs′ i (Unassigned f)
+          → To (i + 1) rs″ ends″ rests″ queue″
+      evict-one f reg y pf pr ends″ rests″ queue″ tb rs″ st =
+          record {
+            onward =
+                λ j s t reach e mv is.
+                let o = so-far .onward j s t reach e mv is in
+                let g = good-reached j (o .x) (o .reached) in
+                let w = recordWeight a in
+                let h = assigned-held j (o .x) g i f reg w (own (o .x) (o .records-are) ∙ held-as a f reg y pf pr) in
+                let gone-one = evict-held j (o .x) i (candidate reg w) (h .0) in
+                record {
+                  x = lose j i reg (o .x);
+                  reached = subst (λ (y : State). Reached j y) gone-one (reached-evict j (o .x) (o .reached) i);
+                  moves = tb .reached j (o .x) t (o .reached) e (o .moves) (candidate reg w) (h .0) refl;
+                  records-are =
+                      st ∙ ap (λ (r : List Assignment). set r i (Unassigned f)) (o .records-are)
+                      ∙ ap (λ (b : Bool). set (records (o .x)) i (Unassigned b)) (sym (h .1))
+                      ∙ sym (lose-records j (o .x) g i (holder-good j (o .x) g i (candidate reg w) (h .0) .0) reg (not-left (holder-stays j (o .x) g i (candidate reg w) (h .0))));
+                  whole =
+                      ap (λ (y : State). evictMarked j gone i (o .x) (i + 1) y) (sym gone-one)
+                      ∙ marked-yes j gone i (o .x) l m ∙ o .whole;
+                };
+          }
+        where
+          not-left : {b : Bool} → b ≡ false → T (not b)
+          not-left {b} p = subst (λ (c : Bool). T (not c)) (sym p) tt

@@ -2,3 +2,5 @@ pub mod DecideLaws
 pub mod Shares
 pub mod CarryLaws
 pub mod Decision
+pub mod Carried
+pub mod RunLaws

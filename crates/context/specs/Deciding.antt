@@ -1,7 +1,7 @@
 -- A dequeue's decision in the shape of the code of src/decide.rt, over what is lent. Laws in proofs/ tie it to Dequeue.antt. Assumes nothing.
 use Prim.Native.Nat.{ℕ, _+_, _-_}
 use mathlib.Core.List.{List, []}
-use mathlib.Core.Bool.{Bool, true, false, not, _&&_, cond}
+use mathlib.Core.Bool.{Bool, true, false, not, _&&_, _||_, cond}
 use lib.Dec.{eqb}
 use lib.Ieee.{Float, lt, eq}
 use lib.ListN.{getD, replicate}
@@ -64,6 +64,21 @@ abbrev pub flagIn : Assignment → Bool
 flagIn (Assigned f r w) = f
 flagIn (Unassigned f) = f
 flagIn Dead = false
+
+-- whether a record holds a register, and which
+abbrev pub isHeld : Assignment → Bool
+isHeld (Assigned f r w) = true
+isHeld (Unassigned f) = false
+isHeld Dead = false
+
+abbrev pub regIn : Assignment → ℕ
+regIn (Assigned f r w) = r
+regIn (Unassigned f) = 0
+regIn Dead = 0
+
+-- the record of a number that takes a register: its flag stays on, or turns on
+abbrev pub givenRecord : Bool → Assignment → CandidateReg → Assignment
+givenRecord f a c = Assigned (f || flagIn a) (c .reg) (c .«preference_weight»)
 
 -- the register last given to the set of v, by its word
 unfoldable pub lastIn : List ℕ → List ℕ → ℕ → Last

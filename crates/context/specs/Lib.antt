@@ -1,3 +1,4 @@
 pub mod Deciding
 pub mod Standing
 pub mod Carrying
+pub mod Running

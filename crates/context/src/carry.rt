@@ -3,12 +3,14 @@ ghost use mathlib.Core.Path.{_≡_};
 ghost use lib.Dec.{ltb};
 ghost use lib.ListN.{getD};
 ghost use Prim.Native.Nat.{_+_, _<_};
+ghost use Rattle.context.specs.Deciding.{isHeld, regIn, givenRecord};
 ghost use Rattle.context.specs.Carrying.{TakenBack, EvictedAll, Taken, CarriedOut};
 use crate::Decided;
 use crate::Fate;
 use crate::decide::flag_of;
 use crate::parts::of32;
 use allocator::Assignment;
+use allocator::CandidateReg;
 use allocator::Stage;
 use lent::at;
 use lent::at16;
@@ -54,6 +56,40 @@ pub fn take_back(
     );
 }
 
+// Whether a record holds a register.
+pub fn is_assigned(a: Assignment) -> bool
+    ensures { λ r. ⌜ r ≡ isHeld a ⌝ }
+{
+    match a {
+        Assignment::Assigned {
+            evicted_for_preference: _,
+            reg: _,
+            preference_weight: _,
+        } => true,
+        Assignment::Unassigned {
+            evicted_for_preference: _,
+        } => false,
+        Assignment::Dead => false,
+    }
+}
+
+// The register that a record holds, or 0.
+pub fn reg_of(a: Assignment) -> u8
+    ensures { λ r. ⌜ r ≡ regIn a ⌝ }
+{
+    match a {
+        Assignment::Assigned {
+            evicted_for_preference: _,
+            reg,
+            preference_weight: _,
+        } => reg,
+        Assignment::Unassigned {
+            evicted_for_preference: _,
+        } => 0,
+        Assignment::Dead => 0,
+    }
+}
+
 // All of a set lose their registers, in ascending order.
 fn evict_all(
     records: [Assignment; 512],
@@ -77,17 +113,13 @@ fn evict_all(
         i += 1;
         if gone[v] {
             let a = all[v];
-            if let Assignment::Assigned {
-                evicted_for_preference,
-                reg,
-                preference_weight: _,
-            } = a {
+            if is_assigned(a) {
                 all[v] = Assignment::Unassigned {
-                    evicted_for_preference,
+                    evicted_for_preference: flag_of(a),
                 };
                 take_back(
                     v as u16,
-                    reg,
+                    reg_of(a),
                     maps,
                     uses,
                     sizes,
@@ -133,6 +165,24 @@ pub fn take(
     assign(ends, rests, uses, v, at(maps, reg as usize), from, to);
     remove(queue, v);
     put8(last, at16(sets, v as usize) as usize, word_of(reg));
+}
+
+// The record of a number that takes a register: its flag stays on, or turns on.
+fn given(flag: bool, before: Assignment, to: CandidateReg) -> Assignment
+    ensures { λ r. ⌜ r ≡ givenRecord flag before to ⌝ }
+{
+    if flag {
+        return Assignment::Assigned {
+            evicted_for_preference: true,
+            reg: to.reg,
+            preference_weight: to.preference_weight,
+        };
+    }
+    Assignment::Assigned {
+        evicted_for_preference: flag_of(before),
+        reg: to.reg,
+        preference_weight: to.preference_weight,
+    }
 }
 
 // What the dequeue of v decided is carried out: the records afterwards.
@@ -185,11 +235,7 @@ pub fn carry_out(
             let to = d.to;
             let mut all = records;
             let a = all[i];
-            all[i] = Assignment::Assigned {
-                evicted_for_preference: d.flag || flag_of(a),
-                reg: to.reg,
-                preference_weight: to.preference_weight,
-            };
+            all[i] = given(d.flag, a, to);
             take(
                 v,
                 to.reg,
@@ -223,11 +269,7 @@ pub fn carry_out(
                 queue,
             );
             let a = all[i];
-            all[i] = Assignment::Assigned {
-                evicted_for_preference: d.flag || flag_of(a),
-                reg: to.reg,
-                preference_weight: to.preference_weight,
-            };
+            all[i] = given(d.flag, a, to);
             take(
                 v,
                 to.reg,
