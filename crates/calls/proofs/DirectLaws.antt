@@ -32,8 +32,8 @@ use Rattle.stage.proofs.ReachedMoves.{evict-held}
 use Rattle.context.specs.Deciding.{flagIn}
 use Rattle.context.specs.Standing.{JobStands, Stands}
 use Rattle.context.specs.Carrying.{TakeReads, EvictReads, Taken, TakenBack}
-use Rattle.calls.specs.Testing.{regIn, namedIn, unknownIn, clearAt, placeTests, evictTests}
-use Rattle.calls.specs.Calling.{refusalNumber, valueNumber, lentState, sizesOf, StateStands, placeAnswer, evictAnswer, Unchanged, Called, Placed, Evicted}
+use Rattle.calls.specs.Testing.{regIn, placeTests, evictTests}
+use Rattle.calls.specs.Calling.{refusalNumber, valueNumber, lentState, sizesOf, StateStands, unknownTo, clearTo, placeAnswer, evictAnswer, Unchanged, Called, Placed, Evicted}
 use Rattle.calls.proofs.RefusalLaws.{none-placing, none-evicting, named-read, clear-read, held-is, placing-tests, evicting-tests, refused-first}
 
 -- ---- any call
@@ -95,26 +95,19 @@ pub place-answered :
     (header : JobHeader) (B : JobBuffers) (v reg bits : ℕ) (S : StateBuffers) (a : Assignment) (lends : Bool)
     → lends ≡ shortBuffer stageLimits (sizesOf B S)
     → (n : ℕ)
-    → n
-    ≡ numberOf
-    (refusal
-    (placeTests lends
-    (unknownIn (header .«virt_regs») (header .regs) v reg (namedIn (B .classStarts) (B .classRegs) (B .classes) (B .valueSets) (B .hintStarts) (B .hintRegs) (header .«virt_regs») v reg))
-    bits a
-    (clearAt (B .regs) (B .fixedUses) (B .segmentStarts) (B .froms) (B .tos) (B .values) (S .ends) (S .rests) v reg)))
+    → n ≡ numberOf (refusal (placeTests lends (unknownTo header B v reg) bits a (clearTo B S v reg)))
     → n ≡ placeAnswer header B v reg bits S a
 unfolding placeAnswer
 place-answered header B v reg bits S a lends pl n pn = rw (← pl) pn
 
-module _ (header : JobHeader) (B : JobBuffers) (v reg bits : ℕ) (S : StateBuffers) (rs : List Assignment) (a : Assignment) (read : a ≡ getD rs v Dead) (n : ℕ) (is : n ≡ placeAnswer header B v reg bits S a) where
-  abbrev names : Bool
-  names = namedIn (B .classStarts) (B .classRegs) (B .classes) (B .valueSets) (B .hintStarts) (B .hintRegs) (header .«virt_regs») v reg
-
-  abbrev clear : Bool
-  clear = clearAt (B .regs) (B .fixedUses) (B .segmentStarts) (B .froms) (B .tos) (B .values) (S .ends) (S .rests) v reg
-
+module _ (header : JobHeader) (B : JobBuffers) (v reg bits : ℕ) (S : StateBuffers) (rs : List Assignment) (a : Assignment) (read : a ≡ getD rs v Dead)
+    (n : ℕ) (is : n ≡ placeAnswer header B v reg bits S a) where
   abbrev placeCall : Call
   placeCall = placing (sizesOf B S) v reg (ofBits binary32 bits)
+
+  no-refusal : n ≡ 0 → refusal (placeTests (shortBuffer stageLimits (sizesOf B S)) (unknownTo header B v reg) bits a (clearTo B S v reg)) ≡ none
+  unfolding placeAnswer
+  no-refusal z = none-placing (shortBuffer stageLimits (sizesOf B S)) (unknownTo header B v reg) bits a (clearTo B S v reg) (sym is ∙ z)
 
   short-placing : shortBuffer stageLimits (sizesOf B S) ≡ true → n ≡ 15
   unfolding placeAnswer
@@ -122,7 +115,8 @@ module _ (header : JobHeader) (B : JobBuffers) (v reg bits : ℕ) (S : StateBuff
 
   module _ (j : Job) (s : State) (t : StateBuffers) (r : Reached j s) (jb : JobStands j B) (h : header ≡ headerOf j) (st : StateStands j s t S rs) where
     -- the tests are those of the rules
-    place-tests-are : refusal (placeTests (shortBuffer stageLimits (sizesOf B S)) (unknownIn (header .«virt_regs») (header .regs) v reg names) bits a clear) ≡ refusalOf j s placeCall
+    place-tests-are :
+        refusal (placeTests (shortBuffer stageLimits (sizesOf B S)) (unknownTo header B v reg) bits a (clearTo B S v reg)) ≡ refusalOf j s placeCall
     unfolding headerOf
     place-tests-are =
         let g = good-reached j s r in
@@ -136,8 +130,7 @@ module _ (header : JobHeader) (B : JobBuffers) (v reg bits : ℕ) (S : StateBuff
     place-number = is ∙ ap numberOf place-tests-are
 
     placeable : n ≡ 0 → refusalOf j s placeCall ≡ none
-    unfolding placeAnswer
-    placeable z = sym place-tests-are ∙ none-placing (shortBuffer stageLimits (sizesOf B S)) (unknownIn (header .«virt_regs») (header .regs) v reg names) bits a clear (sym is ∙ z)
+    placeable z = sym place-tests-are ∙ no-refusal z
 
   place-decided : n ≡ placeAnswer header B v reg bits S (getD rs v Dead)
   place-decided = is ∙ ap (placeAnswer header B v reg bits S) read
@@ -160,16 +153,19 @@ module _ (header : JobHeader) (B : JobBuffers) (v reg bits : ℕ) (S : StateBuff
 
   -- a placement that is carried out has a weight
   place-weight : n ≡ 0 → bits < 0x7F80_0000
-  unfolding placeAnswer
   place-weight z =
-      let a15 = all-pass 15 (shortBuffer stageLimits (sizesOf B S)) _ (none-placing (shortBuffer stageLimits (sizesOf B S)) (unknownIn (header .«virt_regs») (header .regs) v reg names) bits a clear (sym is ∙ z)) in
-      let a8 = all-pass 8 (unknownIn (header .«virt_regs») (header .regs) v reg names) _ (a15 .1) in
-      nleb→lt 0x7F80_0000 bits (all-pass 9 (leb 0x7F80_0000 bits) _ (a8 .1) .0)
+      let b = all-pass 15 (shortBuffer stageLimits (sizesOf B S)) _ (no-refusal z) in
+      let c = all-pass 8 (unknownTo header B v reg) _ (b .1) in
+      nleb→lt 0x7F80_0000 bits (all-pass 9 (leb 0x7F80_0000 bits) _ (c .1) .0)
 
   module _ (z : n ≡ 0) (ends′ rests′ queue′ last′ : List ℕ)
-      (tk : Taken v reg (B .regs) (B .fixedUses) (B .valueSets) (B .segmentStarts) (B .froms) (B .tos) (S .ends) (S .rests) (S .queue) (S .last) ends′ rests′ queue′ last′)
-      (f : Bool) (w : Float) (pf : f ≡ flagIn a) (pw : bits < 0x7F80_0000 → w ≡ ofBits binary32 bits) (rs′ : List Assignment) (pr : rs′ ≡ set rs v (Assigned f reg w)) where
-    given : (j : Job) (s : State) (t : StateBuffers) → Reached j s → JobStands j B → StateStands j s t S rs → Placeable j s (sizesOf B S) v reg (ofBits binary32 bits)
+      (tk : Taken v reg (B .regs) (B .fixedUses) (B .valueSets) (B .segmentStarts) (B .froms) (B .tos) (S .ends) (S .rests) (S .queue) (S .last)
+      ends′ rests′ queue′ last′)
+      (f : Bool) (w : Float) (pf : f ≡ flagIn a) (pw : bits < 0x7F80_0000 → w ≡ ofBits binary32 bits)
+      (rs′ : List Assignment) (pr : rs′ ≡ set rs v (Assigned f reg w)) where
+    given :
+        (j : Job) (s : State) (t : StateBuffers) → Reached j s → JobStands j B → StateStands j s t S rs
+        → Placeable j s (sizesOf B S) v reg (ofBits binary32 bits)
         → StateStands j (give j v (candidate reg (ofBits binary32 bits)) false s) t (lentState ends′ rests′ queue′ last′) rs′
     given j s t r jb st k =
         let g = good-reached j s r in
@@ -226,7 +222,8 @@ is-some none t = absurd t
 is-some (some x) t = (x, refl)
 
 module _ (header : JobHeader) (B : JobBuffers) (v : ℕ) (S : StateBuffers) (rs : List Assignment) (a : Assignment) (read : a ≡ getD rs v Dead)
-    (lends : Bool) (pl : lends ≡ shortBuffer stageLimits (sizesOf B S)) (n : ℕ) (is : n ≡ numberOf (refusal (evictTests lends (leb (header .«virt_regs») v) a))) where
+    (lends : Bool) (pl : lends ≡ shortBuffer stageLimits (sizesOf B S))
+    (n : ℕ) (is : n ≡ numberOf (refusal (evictTests lends (leb (header .«virt_regs») v) a))) where
   abbrev evictCall : Call
   evictCall = evicting (sizesOf B S) v
 
@@ -271,7 +268,9 @@ module _ (header : JobHeader) (B : JobBuffers) (v : ℕ) (S : StateBuffers) (rs 
   module _ (z : n ≡ 0) (reg x : ℕ) (pg : reg ≡ regIn a) (px : x ≡ reg) (ends′ rests′ queue′ : List ℕ)
       (tb : TakenBack v reg (B .regs) (B .fixedUses) (B .sizes) (B .hintStarts) (B .segmentStarts) (B .tos) (S .ends) (S .rests) (S .queue) ends′ rests′ queue′)
       (f : Bool) (pf : f ≡ flagIn a) (rs′ : List Assignment) (pr : rs′ ≡ set rs v (Unassigned f)) where
-    lost : (j : Job) (s : State) (t : StateBuffers) → Reached j s → JobStands j B → StateStands j s t S rs → IsNumber j v → (c : CandidateReg) → heldBy s v ≡ some c
+    lost :
+        (j : Job) (s : State) (t : StateBuffers) → Reached j s → JobStands j B → StateStands j s t S rs
+        → IsNumber j v → (c : CandidateReg) → heldBy s v ≡ some c
         → StateStands j (lose j v (c .reg) s) t (lentState ends′ rests′ queue′ (S .last)) rs′
     lost j s t r jb st b c e =
         let g = good-reached j s r in
@@ -317,7 +316,8 @@ module _ (header : JobHeader) (B : JobBuffers) (v : ℕ) (S : StateBuffers) (rs 
                     let k = evicting-accepted j s (sizesOf B S) v .0 q in
                     let c = is-some (heldBy s v) (k .assigned) in (
                       evict-number j s t r jb h st ∙ answer-number j s evictCall,
-                      subst (λ (u : State). StateStands j u t (lentState ends′ rests′ queue′ (S .last)) rs′) (sym (after-accepted j s evictCall q ∙ evict-held j s v (c .0) (c .1)))
+                      subst (λ (u : State). StateStands j u t (lentState ends′ rests′ queue′ (S .last)) rs′)
+                          (sym (after-accepted j s evictCall q ∙ evict-held j s v (c .0) (c .1)))
                           (lost j s t r jb st (k .known) (c .0) (c .1)),
                     );
               };
