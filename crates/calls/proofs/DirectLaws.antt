@@ -20,20 +20,20 @@ use Rattle.job.proofs.Premises.{IsNumber}
 use Rattle.allocator.specs.declared.Assignment.{Assignment}
 use Rattle.allocator.specs.declared.Assignment.the-variants.{Assigned, Unassigned, Dead}
 use Rattle.allocator.specs.declared.CandidateReg.{CandidateReg}
-use Rattle.allocator.specs.State.{State, heldBy, isLeftOver, flag, recordOf, records, give, lose, evictNumber}
+use Rattle.allocator.specs.State.{State, heldBy, isLeftOver, flag, recordOf, records, give, lose}
 use Rattle.allocator.specs.Order.{candidate}
-use Rattle.allocator.specs.Layout.{StateBuffers, stageLimits, lastWords}
-use Rattle.allocator.specs.Calls.{Call, placing, evicting, running, badWeight, refusalOf, carriedOut, unlessRefused, after, accepted, orRefused, answerOf, regOf}
+use Rattle.allocator.specs.Layout.{StateBuffers, stageLimits}
+use Rattle.allocator.specs.Calls.{Call, placing, evicting, running, refusalOf, carriedOut, unlessRefused, after, accepted, orRefused, answerOf}
 use Rattle.allocator.specs.Reached.{Reached}
-use Rattle.allocator.proofs.Accepted.{all-pass, Placeable, placing-accepted, Evictable, evicting-accepted}
+use Rattle.allocator.proofs.Accepted.{all-pass, Placeable, placing-accepted, evicting-accepted}
 use Rattle.allocator.proofs.Good.{Good, good-reached, placeable-idle}
 use Rattle.allocator.proofs.Records.{holder-stays, held-record, idle-record, give-records, lose-records, lose-last}
 use Rattle.stage.proofs.ReachedMoves.{evict-held}
 use Rattle.context.specs.Deciding.{flagIn}
-use Rattle.context.specs.Standing.{JobStands, Stands}
-use Rattle.context.specs.Carrying.{TakeReads, EvictReads, Taken, TakenBack}
+use Rattle.context.specs.Standing.{JobStands}
+use Rattle.context.specs.Carrying.{Taken, TakenBack}
 use Rattle.calls.specs.Testing.{regIn, placeTests, evictTests}
-use Rattle.calls.specs.Calling.{refusalNumber, valueNumber, lentState, sizesOf, StateStands, unknownTo, clearTo, placeAnswer, evictAnswer, Unchanged, Called, Placed, Evicted}
+use Rattle.calls.specs.Calling.{refusalNumber, valueNumber, lentState, sizesOf, StateStands, unknownTo, clearTo, placeAnswer, evictAnswer, Placed, Evicted}
 use Rattle.calls.proofs.RefusalLaws.{none-placing, none-evicting, named-read, clear-read, held-is, placing-tests, evicting-tests, refused-first}
 
 -- ---- any call

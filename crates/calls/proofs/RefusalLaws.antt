@@ -24,7 +24,7 @@ use Rattle.job.specs.Model as model
 use Rattle.job.specs.Model.{Job, noVirtReg, virtReg}
 use Rattle.job.specs.Layout.{JobBuffers, jobBuffers}
 use Rattle.job.specs.Load.{badHintBits}
-use Rattle.job.proofs.Premises.{Finite, IsNumber, IsReg}
+use Rattle.job.proofs.Premises.{Finite, IsNumber}
 use Rattle.job.proofs.Weights.{finite-hint, neither}
 use Rattle.allocator.specs.declared.Assignment.{Assignment}
 use Rattle.allocator.specs.declared.CandidateReg.{CandidateReg}

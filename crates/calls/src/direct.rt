@@ -1,7 +1,6 @@
 // Direct placements and evictions: `Context::assign` and `evict` (`allocator/mod.rs`), as calls of their own.
 ghost use mathlib.Core.Path.{_≡_};
 ghost use Prim.Native.Nat.{_<_};
-ghost use lib.Dec.{leb};
 ghost use lib.Ieee.{binary32, ofBits};
 ghost use lib.ListN.{getD, set};
 ghost use Rattle.allocator.specs.declared.Assignment.the-variants.{Dead};
