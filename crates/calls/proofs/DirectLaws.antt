@@ -33,7 +33,8 @@ use Rattle.context.specs.Deciding.{flagIn}
 use Rattle.context.specs.Standing.{JobStands}
 use Rattle.context.specs.Carrying.{Taken, TakenBack}
 use Rattle.calls.specs.Testing.{regIn, placeTests, evictTests}
-use Rattle.calls.specs.Calling.{refusalNumber, valueNumber, lentState, sizesOf, StateStands, unknownTo, clearTo, placeAnswer, evictAnswer, Placed, Evicted}
+use Rattle.context.specs.Running.{lentState}
+use Rattle.calls.specs.Calling.{refusalNumber, valueNumber, sizesOf, StateStands, unknownTo, clearTo, placeAnswer, evictAnswer, Placed, Evicted}
 use Rattle.calls.proofs.RefusalLaws.{none-placing, none-evicting, named-read, clear-read, held-is, placing-tests, evicting-tests, refused-first}
 
 -- ---- any call

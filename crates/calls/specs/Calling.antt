@@ -4,7 +4,7 @@ use mathlib.Core.Path.{_≡_}
 use mathlib.Core.List.{List, [], _∷_}
 use mathlib.Core.Bool.{Bool, true}
 use lib.Dec.{leb}
-use lib.Ieee.{Float, binary32, ofBits}
+use lib.Ieee.{binary32, ofBits}
 use lib.ListN.{length, getD, set}
 use Rattle.reg_matrix.specs.Refusals.{refusal, shortBuffer}
 use Rattle.matrix.specs.Walk.{refusalNumber as numberOf}
@@ -38,29 +38,6 @@ valueNumber (evicted r) = r
 valueNumber (ended e n) = n
 
 -- ---- what is lent
-
-abbrev pub lentJob : List ℕ → List ℕ → List ℕ → List ℕ → List ℕ → List ℕ → List Float → List ℕ → List ℕ → List ℕ → List Float → List ℕ → List ℕ → List ℕ → List ℕ → JobBuffers
-lentJob maps cs cr us kinds sets sw zs hs hr hw ss fs ts vs =
-    record {
-      regs = maps;
-      classStarts = cs;
-      classRegs = cr;
-      fixedUses = us;
-      classes = kinds;
-      valueSets = sets;
-      spillWeights = sw;
-      sizes = zs;
-      hintStarts = hs;
-      hintRegs = hr;
-      hintWeights = hw;
-      segmentStarts = ss;
-      froms = fs;
-      tos = ts;
-      values = vs;
-    }
-
-abbrev pub lentState : List ℕ → List ℕ → List ℕ → List ℕ → StateBuffers
-lentState es rs qs ls = record { ends = es; rests = rs; queue = qs; last = ls }
 
 -- the sizes of what is lent, in the order of the limits
 abbrev pub sizesOf : JobBuffers → StateBuffers → List ℕ
