@@ -2,20 +2,18 @@
 -- Questions.antt says of the state's table. Assumes nothing.
 use Prim.Native.Nat.{ℕ, _-_, _^_, _<_}
 use native.Mathlib.Omega.{arith}
-use mathlib.Core.Path.{_≡_, refl, sym, ap, _∙_}
+use mathlib.Core.Path.{_≡_, refl, ap, _∙_}
 use mathlib.Core.List.{List, [], _∷_, _++_, append-assoc}
 use mathlib.Core.Option.{Option, none, some}
 use mathlib.Core.Bool.{Bool, true, false}
 use lib.Dec.{leb, nleb→lt}
 use lib.ListN.{length, getD, take, replicate}
 use lib.Seq.{take-at}
-use Rattle.reg_matrix.specs.Lists.{padded, isNil}
+use Rattle.reg_matrix.specs.Lists.{padded}
 use Rattle.reg_matrix.specs.Refusals.{orThen, shortBuffer, rangesRefusal}
 use Rattle.reg_matrix.specs.Questions.{tableLimits, checkLimits, checkRefusal, orReports, checked, askCheck, isUnitFree, spareRefusal, isSpare, orSpare, askSpare}
-use Rattle.reg_matrix.specs.Layout.{endWords, restWords}
 use Rattle.reg_matrix.specs.Check.{check}
 use Rattle.reg_matrix.specs.declared.ValueSegment.{ValueSegment}
-use Rattle.reg_matrix.specs.declared.Interference.{Interference}
 use Rattle.reg_matrix.proofs.Places.{padded-read}
 use Rattle.matrix.specs.Moves.{words}
 use Rattle.matrix.specs.Placing.{freeAt, range, spareAnswer}
@@ -65,7 +63,8 @@ module _ (j : Job) (s : State) (r : Reached j s) (et rt ends rests : List ℕ) (
           let g = good-reached j s r in
           free (freeAt u from to (words ends rests))
           ∙ ap isSpare
-          (spare-found j s g et rt (words ends rests) (table-stands j s g ends rests et rt (st .ends-are) (st .rests-are)) u from to (known-unit _ u (range from to) e) h)
+          (spare-found j s g et rt (words ends rests) (table-stands j s g ends rests et rt (st .ends-are) (st .rests-are)) u from to
+          (known-unit _ u (range from to) e) h)
 
 -- ---- a check
 
@@ -111,6 +110,7 @@ module _ (j : Job) (s : State) (r : Reached j s) (maps : List ℕ) (bm : Begins 
           let g = good-reached j s r in
           let a = asks j (checkSizes maps W) reg ss e in
           let units : getD maps reg 0 ≡ unitMap j reg =
-          ap (λ (l : List ℕ). getD l reg 0) (bm .1) ∙ padded-read 64 0 (j .regs) (bm .0) reg (g .premises .few-regs) (omega (arith, a .known, g .premises .few-regs)) in
+          ap (λ (l : List ℕ). getD l reg 0) (bm .1)
+          ∙ padded-read 64 0 (j .regs) (bm .0) reg (g .premises .few-regs) (omega (arith, a .known, g .premises .few-regs)) in
           ap (λ (n : ℕ). checked (remaining W (entered (W .ends) (W .froms) n full))) units
           ∙ ap checked (asked-reports j s g W et rt (bu .0) (st .ends-are) (st .rests-are) (bu .1) full reg h (a .ranges))

@@ -24,7 +24,7 @@ use Rattle.job.specs.Model as model
 use Rattle.job.specs.Model.{Job, noVirtReg, virtReg}
 use Rattle.job.specs.Layout.{JobBuffers, jobBuffers}
 use Rattle.job.specs.Load.{badHintBits}
-use Rattle.job.proofs.Premises.{Finite, IsNumber, IsReg}
+use Rattle.job.proofs.Premises.{Finite, IsNumber}
 use Rattle.job.proofs.Weights.{finite-hint, neither}
 use Rattle.allocator.specs.declared.Assignment.{Assignment}
 use Rattle.allocator.specs.declared.CandidateReg.{CandidateReg}
@@ -60,7 +60,10 @@ unfolding refusal
 refused-first n b ts e = rw e
 
 -- no test's number is 0, and so 0 says that no test refused
-pub none-more : (n : ℕ) (b : Bool) (ts : List Test) → (numberOf (refusal ts) ≡ 0 → refusal ts ≡ none) → numberOf (refusal (suc n if b ∷ ts)) ≡ 0 → refusal (suc n if b ∷ ts) ≡ none
+pub none-more :
+    (n : ℕ) (b : Bool) (ts : List Test)
+    → (numberOf (refusal ts) ≡ 0 → refusal ts ≡ none)
+    → numberOf (refusal (suc n if b ∷ ts)) ≡ 0 → refusal (suc n if b ∷ ts) ≡ none
 unfolding refusal
 none-more n true ts f e = absurd (omega arith)
 none-more n false ts f e = f e
@@ -69,7 +72,9 @@ no-tests : numberOf (refusal []) ≡ 0 → refusal [] ≡ none
 unfolding refusal
 no-tests e = refl
 
-pub none-placing : (short unknown : Bool) (bits : ℕ) (a : Assignment) (clear : Bool) → numberOf (refusal (placeTests short unknown bits a clear)) ≡ 0 → refusal (placeTests short unknown bits a clear) ≡ none
+pub none-placing :
+    (short unknown : Bool) (bits : ℕ) (a : Assignment) (clear : Bool)
+    → numberOf (refusal (placeTests short unknown bits a clear)) ≡ 0 → refusal (placeTests short unknown bits a clear) ≡ none
 none-placing short unknown bits a clear =
     none-more 14 short _ (none-more 7 unknown _ (none-more 8 (leb 0x7F80_0000 bits) _ (none-more 12 (not (isFree a)) _ (none-more 13 (not clear) [] no-tests))))
 
@@ -146,7 +151,8 @@ pub has-all : (r : ℕ) (xs ys : List ℕ) → xs ≡ ys → has r (take (length
 has-all r xs ys e = ap (has r) (take-all (length xs) xs (omega arith) ∙ e)
 
 -- by what the code finds
-module _ (cs cr classes sets starts hints : List ℕ) (n v r kind : ℕ) (class : List ℕ) (h : Bool) (pk : kind ≡ getD classes v 0) (pc : class ≡ shareOf cs kind cr) (ph : h ≡ has r (take (length class) class)) where
+module _ (cs cr classes sets starts hints : List ℕ) (n v r kind : ℕ) (class : List ℕ) (h : Bool)
+    (pk : kind ≡ getD classes v 0) (pc : class ≡ shareOf cs kind cr) (ph : h ≡ has r (take (length class) class)) where
   class-names : h ≡ has r (shareOf cs (getD classes v 0) cr)
   class-names = ph ∙ has-all r class _ pc ∙ ap (λ (k : ℕ). has r (shareOf cs k cr)) pk
 
@@ -154,7 +160,9 @@ module _ (cs cr classes sets starts hints : List ℕ) (n v r kind : ℕ) (class 
   unfolding namedIn
   named-class e = rw (← class-names, e)
 
-  pub named-sets : h ≡ false → (t : ℕ) (x : Bool) → t ≡ getD sets v 0 → x ≡ any (hintedAt sets starts hints t r) (count 0 n) → x ≡ namedIn cs cr classes sets starts hints n v r
+  pub named-sets :
+      h ≡ false → (t : ℕ) (x : Bool) → t ≡ getD sets v 0 → x ≡ any (hintedAt sets starts hints t r) (count 0 n)
+      → x ≡ namedIn cs cr classes sets starts hints n v r
   unfolding namedIn
   named-sets e t x pt px = rw (← class-names, e) (px ∙ ap (λ (t : ℕ). any (hintedAt sets starts hints t r) (count 0 n)) pt)
 
@@ -173,7 +181,8 @@ module _ (p : ℕ → Bool) (n i : ℕ) where
       rw k
 
 -- a test by number is one of what has the number
-any-at : {A : Type 0} (d : A) (p : A → Bool) (q : ℕ → Bool) (xs : List A) (i : ℕ) → ((k : ℕ) → k < length xs → q (i + k) ≡ p (getD xs k d)) → any q (count i (length xs)) ≡ any p xs
+any-at : {A : Type 0} (d : A) (p : A → Bool) (q : ℕ → Bool) (xs : List A) (i : ℕ) → ((k : ℕ) → k < length xs → q (i + k) ≡ p (getD xs k d))
+    → any q (count i (length xs)) ≡ any p xs
 unfolding any count
 any-at d p q [] i h = refl
 any-at d p q (x ∷ xs) i h =
@@ -193,14 +202,18 @@ module _ (j : Job) (s : State) (g : Good j s) (B : JobBuffers) (R : JobReads j B
   hints-read k l = rw (R .hintStarts .1, R .hintRegs .1) (hint-regs-share j k l (R .hintStarts .0) (R .hintRegs .0))
 
   module _ (v : ℕ) (b : IsNumber j v) where
-    pub named-read : (r : ℕ) → namedIn (B .classStarts) (B .classRegs) (B .classes) (B .valueSets) (B .hintStarts) (B .hintRegs) (length (j .virtRegs)) v r ≡ named j v r
+    pub named-read :
+        (r : ℕ)
+        → namedIn (B .classStarts) (B .classRegs) (B .classes) (B .valueSets) (B .hintStarts) (B .hintRegs) (length (j .virtRegs)) v r ≡ named j v r
     unfolding namedIn named classIn virtReg
     named-read r =
         ap₂ _||_ (ap (has r) (class-is j s g B R v b))
         (any-at noVirtReg (λ x. eqb (x .valueSet) (virtReg j v .valueSet) && any (λ h. eqb (h .reg) r) (x .hints))
-        (hintedAt (B .valueSets) (B .hintStarts) (B .hintRegs) (getD (B .valueSets) v 0) r) (j .virtRegs) 0 (λ k l. ap (hintedAt (B .valueSets) (B .hintStarts) (B .hintRegs) (getD (B .valueSets) v 0) r) (omega arith) ∙ at k l))
+        (hintedAt (B .valueSets) (B .hintStarts) (B .hintRegs) (getD (B .valueSets) v 0) r) (j .virtRegs) 0
+        (λ k l. ap (hintedAt (B .valueSets) (B .hintStarts) (B .hintRegs) (getD (B .valueSets) v 0) r) (omega arith) ∙ at k l))
       where
-        at : (k : ℕ) → k < length (j .virtRegs) → hintedAt (B .valueSets) (B .hintStarts) (B .hintRegs) (getD (B .valueSets) v 0) r k ≡ (eqb (virtReg j k .valueSet) (virtReg j v .valueSet) && any (λ h. eqb (h .reg) r) (virtReg j k .hints))
+        at : (k : ℕ) → k < length (j .virtRegs)
+            → hintedAt (B .valueSets) (B .hintStarts) (B .hintRegs) (getD (B .valueSets) v 0) r k ≡ (eqb (virtReg j k .valueSet) (virtReg j v .valueSet) && any (λ h. eqb (h .reg) r) (virtReg j k .hints))
         at k l = rw (set-read k l, set-read v b, hints-read k l) (ap (λ (z : Bool). eqb (virtReg j k .valueSet) (virtReg j v .valueSet) && z) (has-any r (virtReg j k .hints)))
 
     -- 14
@@ -242,7 +255,8 @@ module _ (j : Job) (s : State) (g : Good j s) (v : ℕ) where
 
 -- ---- the tests together
 
-module _ (j : Job) (s : State) (g : Good j s) (sizes : List ℕ) (v : ℕ) (short : Bool) (lends : short ≡ shortBuffer stageLimits sizes) (a : Assignment) (is : IsNumber j v → a ≡ recordOf s v) where
+module _ (j : Job) (s : State) (g : Good j s) (sizes : List ℕ) (v : ℕ) (short : Bool)
+    (lends : short ≡ shortBuffer stageLimits sizes) (a : Assignment) (is : IsNumber j v → a ≡ recordOf s v) where
   known : T (not (leb (length (j .virtRegs)) v)) → IsNumber j v
   known t = nleb→lt (length (j .virtRegs)) v t
 
@@ -250,7 +264,8 @@ module _ (j : Job) (s : State) (g : Good j s) (sizes : List ℕ) (v : ℕ) (shor
       (r bits : ℕ) (names clear : Bool)
       → (IsNumber j v → names ≡ named j v r)
       → (IsNumber j v → r < 64 → clear ≡ isNil (checkOf j s v r))
-      → refusal (placeTests short (unknownIn (length (j .virtRegs)) (length (j .regs)) v r names) bits a clear) ≡ refusalOf j s (placing sizes v r (ofBits binary32 bits))
+      → refusal (placeTests short (unknownIn (length (j .virtRegs)) (length (j .regs)) v r names) bits a clear)
+      ≡ refusalOf j s (placing sizes v r (ofBits binary32 bits))
   unfolding refusalOf
   placing-tests r bits names clear pn pc =
       then-same 15 short _ _ _ lends λ _.

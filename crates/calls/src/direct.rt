@@ -1,10 +1,9 @@
 // Direct placements and evictions: `Context::assign` and `evict` (`allocator/mod.rs`), as calls of their own.
 ghost use mathlib.Core.Path.{_≡_};
 ghost use Prim.Native.Nat.{_<_};
-ghost use lib.Dec.{leb};
 ghost use lib.Ieee.{binary32, ofBits};
 ghost use lib.ListN.{getD, set};
-ghost use Rattle.stage.specs.EvictWalk.{noRecord};
+ghost use Rattle.allocator.specs.declared.Assignment.the-variants.{Dead};
 ghost use Rattle.calls.specs.Testing.{regIn};
 ghost use Rattle.context.specs.Running.{lentJob, lentState};
 ghost use Rattle.calls.specs.Calling.{placeAnswer, Placed, Evicted};
@@ -19,7 +18,7 @@ use job::JobHeader;
 
 // The record of v. A number above 511 has none.
 fn record_at(records: [Assignment; 512], v: u16) -> Assignment
-    ensures { λ r. ⌜ (v < 512 → r ≡ getD records v noRecord) ⌝ }
+    ensures { λ r. ⌜ r ≡ getD records v Dead ⌝ }
 {
     let i = v as usize;
     if 512 <= i {

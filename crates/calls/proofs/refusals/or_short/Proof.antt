@@ -1,4 +1,3 @@
-use borrow.Author.Needs.{needs}
 use borrow.Author.Tests.{lt-ltb, le-ltb}
 use Rattle.calls.proofs.refusals.or_short.Statement.{statement}
 use Rattle.calls.proofs.refusals.or_short.Tie as tie
