@@ -4,7 +4,7 @@ use allocator::CandidateReg;
 
 pub mod carry;
 pub mod decide;
-mod parts;
+pub mod parts;
 pub mod run;
 
 // What becomes of a number that is dequeued: it is left over; it takes a register that is clear; it takes one after evicting its holders; it goes back

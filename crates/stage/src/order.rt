@@ -143,7 +143,7 @@ fn sort(regs: &mut [u8], weights: &mut [f32], n: usize)
 }
 
 // Whether a register is among the first n.
-fn has_reg(regs: &[u8], n: usize, reg: u8) -> bool
+pub fn has_reg(regs: &[u8], n: usize, reg: u8) -> bool
     ensures { λ r. ⌜ r ≡ has reg (take n (now (regs .entry))) ⌝ }
 {
     find_reg(regs, n, reg) < fewer(n, regs.len())

@@ -1,0 +1,5 @@
+pub mod RefusalLaws
+pub mod DirectLaws
+pub mod Traces
+pub mod RunCalls
+pub mod QuestionLaws

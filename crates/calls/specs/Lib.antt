@@ -1,0 +1,4 @@
+pub mod Testing
+pub mod Calling
+pub mod Trace
+pub mod Asking

@@ -1,0 +1,297 @@
+// The tests of direct calls in their order (document 01, "Order"): 15, 8, 9, 13, 14. They read, and change nothing.
+ghost use mathlib.Core.Path.{_≡_};
+ghost use mathlib.Core.Bool.{not, _||_};
+ghost use mathlib.Core.List.{[], _∷_};
+ghost use lib.Dec.{ltb, leb};
+ghost use Rattle.reg_matrix.specs.Lists.{any, count};
+ghost use Rattle.reg_matrix.specs.Refusals.{refusal, shortBuffer};
+ghost use Rattle.matrix.specs.Walk.{refusalNumber as numberOf};
+ghost use Rattle.allocator.specs.Layout.{stageLimits};
+ghost use Rattle.calls.specs.Testing.{isFree, isHeld, hintedAt, namedIn, unknownIn, clearAt, placeTests, evictTests};
+use allocator::Assignment;
+use context::parts::of8;
+use context::parts::of16;
+use context::parts::of32;
+use lent::at;
+use lent::at8;
+use lent::at16;
+use stage::allocate::is_clear;
+use stage::order::has_reg;
+
+// Whether a buffer is below its limit, or another one is.
+fn or_short(size: usize, limit: usize, other: bool) -> bool
+    ensures { λ r. ⌜ r ≡ (ltb size limit || other) ⌝ }
+{
+    if size < limit {
+        return true;
+    }
+    other
+}
+
+// Whether one of the sizes lent to a call is below its limit. They come in the limits' order, and are tested from the last.
+pub fn short_buffers(
+    regs: usize,
+    class_starts: usize,
+    class_regs: usize,
+    uses: usize,
+    classes: usize,
+    sets: usize,
+    spills: usize,
+    sizes: usize,
+    hint_starts: usize,
+    hint_regs: usize,
+    hint_weights: usize,
+    segment_starts: usize,
+    froms: usize,
+    tos: usize,
+    values: usize,
+    ends: usize,
+    rests: usize,
+    queue: usize,
+    last: usize,
+) -> bool
+    ensures { λ r. ⌜ r ≡ shortBuffer stageLimits (regs ∷ «class_starts» ∷ «class_regs» ∷ uses ∷ classes ∷ sets ∷ spills ∷ sizes ∷ «hint_starts» ∷ «hint_regs» ∷ «hint_weights» ∷ «segment_starts» ∷ froms ∷ tos ∷ values ∷ ends ∷ rests ∷ queue ∷ last ∷ []) ⌝ }
+{
+    let short = or_short(last, 512, false);
+    let short = or_short(queue, 1024, short);
+    let short = or_short(rests, 2560, short);
+    let short = or_short(ends, 2560, short);
+    let short = or_short(values, 512, short);
+    let short = or_short(tos, 512, short);
+    let short = or_short(froms, 512, short);
+    let short = or_short(segment_starts, 513, short);
+    let short = or_short(hint_weights, 1024, short);
+    let short = or_short(hint_regs, 1024, short);
+    let short = or_short(hint_starts, 513, short);
+    let short = or_short(sizes, 512, short);
+    let short = or_short(spills, 512, short);
+    let short = or_short(sets, 512, short);
+    let short = or_short(classes, 512, short);
+    let short = or_short(uses, 512, short);
+    let short = or_short(class_regs, 1024, short);
+    let short = or_short(class_starts, 17, short);
+    or_short(regs, 64, short)
+}
+
+// Whether the number k is in the set and has a hint that names the register.
+fn hint_names(k: u16, set: u16, reg: u8, sets: &[u16], starts: &[u16], hints: &[u8]) -> bool
+    ensures { λ r. ⌜ r ≡ hintedAt (now (sets .entry)) (now (starts .entry)) (now (hints .entry)) set reg k ⌝ }
+{
+    if at16(sets, k as usize) != set {
+        return false;
+    }
+    let own = of8(starts, k, hints);
+    has_reg(own, own.len(), reg)
+}
+
+// Whether a hint of a member of the set, of n numbers, names the register.
+fn set_names(n: u16, set: u16, reg: u8, sets: &[u16], starts: &[u16], hints: &[u8]) -> bool
+    ensures { λ r. ⌜ r ≡ any (hintedAt (now (sets .entry)) (now (starts .entry)) (now (hints .entry)) set reg) (count 0 n) ⌝ }
+{
+    let mut k: u16 = 0;
+    while k < n {
+        if hint_names(k, set, reg, sets, starts, hints) {
+            return true;
+        }
+        k += 1;
+    }
+    false
+}
+
+// Whether the class of v, or a hint of a member of its set, names the register.
+fn is_named(
+    n: u16,
+    v: u16,
+    reg: u8,
+    class_starts: &[u16],
+    class_regs: &[u8],
+    classes: &[u8],
+    sets: &[u16],
+    hint_starts: &[u16],
+    hint_regs: &[u8],
+) -> bool
+    ensures { λ r. ⌜ r ≡ namedIn (now («class_starts» .entry)) (now («class_regs» .entry)) (now (classes .entry)) (now (sets .entry)) (now («hint_starts» .entry)) (now («hint_regs» .entry)) n v reg ⌝ }
+{
+    let kind = at8(classes, v as usize);
+    let class = of8(class_starts, kind as u16, class_regs);
+    if has_reg(class, class.len(), reg) {
+        return true;
+    }
+    set_names(n, at16(sets, v as usize), reg, sets, hint_starts, hint_regs)
+}
+
+// Test 8 of a placement: no such number, no such register, or one that v may not have.
+pub fn is_unknown(
+    virt_regs: u16,
+    regs: u8,
+    v: u16,
+    reg: u8,
+    class_starts: &[u16],
+    class_regs: &[u8],
+    classes: &[u8],
+    sets: &[u16],
+    hint_starts: &[u16],
+    hint_regs: &[u8],
+) -> bool
+    ensures { λ r. ⌜ r ≡ unknownIn «virt_regs» regs v reg (namedIn (now («class_starts» .entry)) (now («class_regs» .entry)) (now (classes .entry)) (now (sets .entry)) (now («hint_starts» .entry)) (now («hint_regs» .entry)) «virt_regs» v reg) ⌝ }
+{
+    if virt_regs <= v {
+        return true;
+    }
+    if regs <= reg {
+        return true;
+    }
+    !is_named(
+        virt_regs,
+        v,
+        reg,
+        class_starts,
+        class_regs,
+        classes,
+        sets,
+        hint_starts,
+        hint_regs,
+    )
+}
+
+// Whether the check of v's segments on the register's units reports nothing.
+pub fn is_clear_at(
+    v: u16,
+    reg: u8,
+    maps: &[u64],
+    uses: &[u64],
+    segment_starts: &[u16],
+    froms: &[u32],
+    tos: &[u32],
+    values: &[u16],
+    ends: &[u64],
+    rests: &[u64],
+) -> bool
+    ensures { λ r. ⌜ r ≡ clearAt (now (maps .entry)) (now (uses .entry)) (now («segment_starts» .entry)) (now (froms .entry)) (now (tos .entry)) (now (values .entry)) (now (ends .entry)) (now (rests .entry)) v reg ⌝ }
+{
+    let units = at(maps, reg as usize);
+    is_clear(
+        units,
+        ends,
+        rests,
+        uses,
+        of32(segment_starts, v, froms),
+        of32(segment_starts, v, tos),
+        of16(segment_starts, v, values),
+    )
+}
+
+fn is_free(a: Assignment) -> bool
+    ensures { λ r. ⌜ r ≡ isFree a ⌝ }
+{
+    match a {
+        Assignment::Assigned {
+            evicted_for_preference: _,
+            reg: _,
+            preference_weight: _,
+        } => false,
+        Assignment::Unassigned {
+            evicted_for_preference: _,
+        } => true,
+        Assignment::Dead => false,
+    }
+}
+
+fn is_held(a: Assignment) -> bool
+    ensures { λ r. ⌜ r ≡ isHeld a ⌝ }
+{
+    match a {
+        Assignment::Assigned {
+            evicted_for_preference: _,
+            reg: _,
+            preference_weight: _,
+        } => true,
+        Assignment::Unassigned {
+            evicted_for_preference: _,
+        } => false,
+        Assignment::Dead => false,
+    }
+}
+
+// The refusal of a placement, or 0: 15, 8, 9, 13, 14. It is told whether a buffer is short; the weight comes as binary32 bits, and `a` is the record of
+// v.
+pub fn place_refusal(
+    short: bool,
+    a: Assignment,
+    virt_regs: u16,
+    regs: u8,
+    v: u16,
+    reg: u8,
+    weight: u32,
+    maps: &[u64],
+    class_starts: &[u16],
+    class_regs: &[u8],
+    uses: &[u64],
+    classes: &[u8],
+    sets: &[u16],
+    hint_starts: &[u16],
+    hint_regs: &[u8],
+    segment_starts: &[u16],
+    froms: &[u32],
+    tos: &[u32],
+    values: &[u16],
+    ends: &[u64],
+    rests: &[u64],
+) -> u64
+    ensures { λ r. ⌜ r ≡ numberOf (refusal (placeTests short (unknownIn «virt_regs» regs v reg (namedIn (now («class_starts» .entry)) (now («class_regs» .entry)) (now (classes .entry)) (now (sets .entry)) (now («hint_starts» .entry)) (now («hint_regs» .entry)) «virt_regs» v reg)) weight a (clearAt (now (maps .entry)) (now (uses .entry)) (now («segment_starts» .entry)) (now (froms .entry)) (now (tos .entry)) (now (values .entry)) (now (ends .entry)) (now (rests .entry)) v reg))) ⌝ }
+{
+    if short {
+        return 15;
+    }
+    if is_unknown(
+        virt_regs,
+        regs,
+        v,
+        reg,
+        class_starts,
+        class_regs,
+        classes,
+        sets,
+        hint_starts,
+        hint_regs,
+    ) {
+        return 8;
+    }
+    if 0x7F80_0000 <= weight {
+        return 9;
+    }
+    if !is_free(a) {
+        return 13;
+    }
+    if !is_clear_at(
+        v,
+        reg,
+        maps,
+        uses,
+        segment_starts,
+        froms,
+        tos,
+        values,
+        ends,
+        rests,
+    ) {
+        return 14;
+    }
+    0
+}
+
+// The refusal of an eviction, or 0: 15, 8, 13.
+pub fn evict_refusal(short: bool, a: Assignment, virt_regs: u16, v: u16) -> u64
+    ensures { λ r. ⌜ r ≡ numberOf (refusal (evictTests short (leb «virt_regs» v) a)) ⌝ }
+{
+    if short {
+        return 15;
+    }
+    if virt_regs <= v {
+        return 8;
+    }
+    if !is_held(a) {
+        return 13;
+    }
+    0
+}
