@@ -1,4 +1,32 @@
 // The printed sheet line by line, in a small buffer that the caller lends: no buffer holds the whole sheet. Its definitions are those of the crates
 // reg_matrix (Lines) and allocator (Sheet).
+use allocator::Ending;
+use job::JobHeader;
 
 mod lines;
+// pub mod sheet;
+
+// A place in the sheet: the line that is next, or what stands in its place where there is no such line: an entry past the last one is the spare
+// line.
+pub enum Place {
+    Head,
+    VirtReg(u16),
+    Entry(usize),
+    End,
+}
+
+// A position in the sheet of a run with this ending and as many dequeues, of a job with this header.
+pub struct Listing {
+    pub ending: Ending,
+    pub dequeues: u32,
+    pub header: JobHeader,
+    pub place: Place,
+}
+
+// What the next line is: so many bytes of the lent line, with the position after it; or there is none; or the number of a refusal, which has
+// stored nothing.
+pub enum Step {
+    Line(usize, Listing),
+    End,
+    Refused(u8),
+}

@@ -3,10 +3,17 @@ ghost use mathlib.Core.Path.{_≡_};
 ghost use mathlib.Core.List.{[], _∷_};
 ghost use Prim.Native.Nat.{_+_, _≤_, _<_};
 ghost use lib.ListN.{length};
-ghost use Rattle.reg_matrix.specs.Lines.{number as decimal};
+ghost use Rattle.reg_matrix.specs.Lines.{number as decimal, sp, refusedLine, indexText, reservationText, entryLine};
+ghost use Rattle.allocator.specs.Sheet.{endWord, endLine, standing as standingOf};
 ghost use Rattle.listing.specs.Texts.{Appended};
+ghost use Rattle.listing.specs.Walk.{standingText};
+use allocator::Assignment;
+use allocator::Ending;
 use lent::at8;
 use lent::put8;
+use reg_matrix::Entry;
+use reg_matrix::FixedIndex;
+use reg_matrix::Reservation;
 
 // Stores a text from place `at` on, and gives the place after it.
 fn text(line: &mut [u8], at: usize, bytes: &[u8]) -> usize
@@ -41,4 +48,114 @@ fn number(line: &mut [u8], at: usize, n: u64) -> usize
     }
     let next = number(line, at, n / 10);
     byte(line, next, last)
+}
+
+// The same of a space and a number.
+fn spaced(line: &mut [u8], at: usize, n: u64) -> usize
+    requires { ⌜ at < 2000 ⌝ }
+    ensures { λ r. ⌜ Appended (now (line .entry)) at (sp (decimal n)) (now (line .exit)) r ⌝ }
+{
+    let next = byte(line, at, 32);
+    number(line, next, n)
+}
+
+fn end_word(line: &mut [u8], at: usize, ending: Ending) -> usize
+    requires { ⌜ at < 1000 ⌝ }
+    ensures { λ r. ⌜ Appended (now (line .entry)) at (endWord ending) (now (line .exit)) r ⌝ }
+{
+    match ending {
+        Ending::Done => text(line, at, b"done"),
+        Ending::Spent => text(line, at, b"spent"),
+        Ending::TooMany => text(line, at, b"toomany"),
+    }
+}
+
+// `end WORD DEQUEUES`.
+pub fn end_line(line: &mut [u8], ending: Ending, dequeues: u32) -> usize
+    ensures { λ r. ⌜ Appended (now (line .entry)) 0 (endLine ending dequeues) (now (line .exit)) r ⌝ }
+{
+    let a = text(line, 0, b"end ");
+    let b = end_word(line, a, ending);
+    let c = spaced(line, b, dequeues as u64);
+    byte(line, c, 10)
+}
+
+// `refused N`.
+pub fn refused_line(line: &mut [u8], n: u8) -> usize
+    ensures { λ r. ⌜ Appended (now (line .entry)) 0 (refusedLine n) (now (line .exit)) r ⌝ }
+{
+    let a = text(line, 0, b"refused ");
+    let b = number(line, a, n as u64);
+    byte(line, b, 10)
+}
+
+fn standing(line: &mut [u8], at: usize, assignment: Assignment) -> usize
+    requires { ⌜ at < 1000 ⌝ }
+    ensures { λ r. ⌜ Appended (now (line .entry)) at (standingOf assignment) (now (line .exit)) r ⌝ }
+{
+    match assignment {
+        Assignment::Assigned {
+            evicted_for_preference: _,
+            reg,
+            preference_weight: _,
+        } => {
+            let next = text(line, at, b" reg ");
+            number(line, next, reg as u64)
+        }
+        Assignment::Unassigned {
+            evicted_for_preference: _,
+        } => text(line, at, b" wait"),
+        Assignment::Dead => text(line, at, b" left"),
+    }
+}
+
+// `v N reg R`, `v N left` or `v N wait`.
+pub fn standing_line(line: &mut [u8], v: u16, assignment: Assignment) -> usize
+    ensures { λ r. ⌜ Appended (now (line .entry)) 0 (standingText v assignment) (now (line .exit)) r ⌝ }
+{
+    let a = text(line, 0, b"v ");
+    let b = number(line, a, v as u64);
+    let c = standing(line, b, assignment);
+    byte(line, c, 10)
+}
+
+fn index(line: &mut [u8], at: usize, i: FixedIndex) -> usize
+    requires { ⌜ at < 1000 ⌝ }
+    ensures { λ r. ⌜ Appended (now (line .entry)) at (sp (indexText i)) (now (line .exit)) r ⌝ }
+{
+    match i {
+        FixedIndex::NoIndex => text(line, at, b" -"),
+        FixedIndex::At(n) => spaced(line, at, n as u64),
+    }
+}
+
+fn reservation(line: &mut [u8], at: usize, held: Reservation) -> usize
+    requires { ⌜ at < 500 ⌝ }
+    ensures { λ r. ⌜ Appended (now (line .entry)) at (reservationText held) (now (line .exit)) r ⌝ }
+{
+    match held {
+        Reservation::Held(v, i) => {
+            let a = text(line, at, b" held ");
+            let b = number(line, a, v as u64);
+            index(line, b, i)
+        }
+        Reservation::FixedUse(x) => {
+            let a = text(line, at, b" use ");
+            number(line, a, x as u64)
+        }
+        Reservation::FixedDef => text(line, at, b" def"),
+    }
+}
+
+// `u U FROM TO held N I`, `u U FROM TO use V` or `u U FROM TO def`.
+pub fn entry_line(line: &mut [u8], entry: Entry) -> usize
+    ensures { λ r. ⌜ Appended (now (line .entry)) 0 (entryLine entry) (now (line .exit)) r ⌝ }
+{
+    let a = text(line, 0, b"u ");
+    let b = number(line, a, entry.unit as u64);
+    let c = spaced(line, b, entry.from as u64);
+    let d = spaced(line, c, entry.to as u64);
+    let held = entry.reservation;
+    let e = reservation(line, d, held);
+    byte(line, e, 10)
 }
