@@ -30,6 +30,10 @@ then {s} {t} {u} {x} {y} {i} {j} {k} p q =
       place = omega (arith, p .place, q .place, length-append x y);
     }
 
+-- no text
+pub nothing : (s : List ℕ) (i : ℕ) → Appended s i [] s i
+nothing s i = record { line = refl; place = sym (add-zero i) }
+
 -- a text by another name
 pub named : {s t x y : List ℕ} {i j : ℕ} → x ≡ y → Appended s i x t j → Appended s i y t j
 named {s} {t} {x} {y} {i} {j} e p = subst (λ (z : List ℕ). Appended s i z t j) e p

@@ -4,7 +4,7 @@ use allocator::Ending;
 use job::JobHeader;
 
 mod lines;
-// pub mod sheet;
+pub mod sheet;
 
 // A place in the sheet: the line that is next, or what stands in its place where there is no such line: an entry past the last one is the spare
 // line.

@@ -1,16 +1,20 @@
 // The lines of the sheet (01, "The printed sheet"), each stored from the front of a lent line. What a line has no room for is not stored.
 ghost use mathlib.Core.Path.{_≡_};
 ghost use mathlib.Core.List.{[], _∷_};
+ghost use mathlib.Core.Bool.{cond};
 ghost use Prim.Native.Nat.{_+_, _≤_, _<_};
 ghost use lib.ListN.{length};
 ghost use Rattle.reg_matrix.specs.Lines.{number as decimal, sp, refusedLine, indexText, reservationText, entryLine};
 ghost use Rattle.allocator.specs.Sheet.{endWord, endLine, standing as standingOf};
 ghost use Rattle.listing.specs.Texts.{Appended};
-ghost use Rattle.listing.specs.Walk.{standingText};
+ghost use Rattle.listing.specs.Walk.{lent, standingText, isRegisterUnit, isSpare, spareText};
 use allocator::Assignment;
 use allocator::Ending;
+use lent::at;
 use lent::at8;
 use lent::put8;
+use matrix::UnitFree;
+use matrix::unit_free::is_unit_free;
 use reg_matrix::Entry;
 use reg_matrix::FixedIndex;
 use reg_matrix::Reservation;
@@ -40,7 +44,7 @@ fn byte(line: &mut [u8], at: usize, b: u8) -> usize
 // The same of a number's decimal digits.
 fn number(line: &mut [u8], at: usize, n: u64) -> usize
     requires { ⌜ at < 2048 ⌝ }
-    ensures { λ r. ⌜ Appended (now (line .entry)) at (decimal n) (now (line .exit)) r ⌝ }
+    ensures { λ r. ⌜ Appended (now (line .entry)) at (decimal n) (now (line .exit)) r × (r ≤ at + 20) ⌝ }
 {
     let last = (48 + n % 10) as u8;
     if n < 10 {
@@ -53,7 +57,7 @@ fn number(line: &mut [u8], at: usize, n: u64) -> usize
 // The same of a space and a number.
 fn spaced(line: &mut [u8], at: usize, n: u64) -> usize
     requires { ⌜ at < 2000 ⌝ }
-    ensures { λ r. ⌜ Appended (now (line .entry)) at (sp (decimal n)) (now (line .exit)) r ⌝ }
+    ensures { λ r. ⌜ Appended (now (line .entry)) at (sp (decimal n)) (now (line .exit)) r × (r ≤ at + 21) ⌝ }
 {
     let next = byte(line, at, 32);
     number(line, next, n)
@@ -61,7 +65,7 @@ fn spaced(line: &mut [u8], at: usize, n: u64) -> usize
 
 fn end_word(line: &mut [u8], at: usize, ending: Ending) -> usize
     requires { ⌜ at < 1000 ⌝ }
-    ensures { λ r. ⌜ Appended (now (line .entry)) at (endWord ending) (now (line .exit)) r ⌝ }
+    ensures { λ r. ⌜ Appended (now (line .entry)) at (endWord ending) (now (line .exit)) r × (r ≤ at + 7) ⌝ }
 {
     match ending {
         Ending::Done => text(line, at, b"done"),
@@ -91,7 +95,7 @@ pub fn refused_line(line: &mut [u8], n: u8) -> usize
 
 fn standing(line: &mut [u8], at: usize, assignment: Assignment) -> usize
     requires { ⌜ at < 1000 ⌝ }
-    ensures { λ r. ⌜ Appended (now (line .entry)) at (standingOf assignment) (now (line .exit)) r ⌝ }
+    ensures { λ r. ⌜ Appended (now (line .entry)) at (standingOf assignment) (now (line .exit)) r × (r ≤ at + 25) ⌝ }
 {
     match assignment {
         Assignment::Assigned {
@@ -121,7 +125,7 @@ pub fn standing_line(line: &mut [u8], v: u16, assignment: Assignment) -> usize
 
 fn index(line: &mut [u8], at: usize, i: FixedIndex) -> usize
     requires { ⌜ at < 1000 ⌝ }
-    ensures { λ r. ⌜ Appended (now (line .entry)) at (sp (indexText i)) (now (line .exit)) r ⌝ }
+    ensures { λ r. ⌜ Appended (now (line .entry)) at (sp (indexText i)) (now (line .exit)) r × (r ≤ at + 21) ⌝ }
 {
     match i {
         FixedIndex::NoIndex => text(line, at, b" -"),
@@ -131,7 +135,7 @@ fn index(line: &mut [u8], at: usize, i: FixedIndex) -> usize
 
 fn reservation(line: &mut [u8], at: usize, held: Reservation) -> usize
     requires { ⌜ at < 500 ⌝ }
-    ensures { λ r. ⌜ Appended (now (line .entry)) at (reservationText held) (now (line .exit)) r ⌝ }
+    ensures { λ r. ⌜ Appended (now (line .entry)) at (reservationText held) (now (line .exit)) r × (r ≤ at + 47) ⌝ }
 {
     match held {
         Reservation::Held(v, i) => {
@@ -158,4 +162,78 @@ pub fn entry_line(line: &mut [u8], entry: Entry) -> usize
     let held = entry.reservation;
     let e = reservation(line, d, held);
     byte(line, e, 10)
+}
+
+// Whether a unit is one of those of the first `regs` registers.
+fn is_register_unit(maps: &[u64], regs: u8, unit: u8) -> bool
+    requires { ⌜ unit < 64 ⌝ }
+    ensures { λ r. ⌜ r ≡ isRegisterUnit (now (maps .entry)) regs unit ⌝ }
+{
+    let u = unit as u64;
+    let n = regs as usize;
+    let mut i = 0;
+    while i < n {
+        if (at(maps, i) >> u) % 2 == 1 {
+            return true;
+        }
+        i += 1;
+    }
+    false
+}
+
+// Whether the spare line has a unit.
+fn is_spare(
+    maps: &[u64],
+    regs: u8,
+    ends: &[u64],
+    rests: &[u64],
+    from: u32,
+    to: u32,
+    unit: u8,
+) -> bool
+    requires { ⌜ unit < 64 ⌝ }
+    ensures { λ r. ⌜ r ≡ isSpare (lent (now (maps .entry)) (now (ends .entry)) (now (rests .entry))) regs from to unit ⌝ }
+{
+    if !is_register_unit(maps, regs, unit) {
+        return false;
+    }
+    let free = is_unit_free(ends, rests, unit, from, to);
+    match free {
+        UnitFree::Free => true,
+        UnitFree::Taken => false,
+        UnitFree::NotAsked(_) => false,
+    }
+}
+
+// A unit of the spare line, where it is spare.
+fn spare_unit(line: &mut [u8], at: usize, unit: u8, spare: bool) -> usize
+    requires { ⌜ (at < 2000) × (unit < 64) ⌝ }
+    ensures { λ r. ⌜ Appended (now (line .entry)) at (cond spare (sp (decimal unit)) []) (now (line .exit)) r × (r ≤ at + 3) ⌝ }
+{
+    if spare {
+        return spaced(line, at, unit as u64);
+    }
+    at
+}
+
+// `spare` and the units of the first `regs` registers that are spare from `from` to `to`.
+pub fn spare_line(
+    line: &mut [u8],
+    maps: &[u64],
+    regs: u8,
+    ends: &[u64],
+    rests: &[u64],
+    from: u32,
+    to: u32,
+) -> usize
+    ensures { λ r. ⌜ Appended (now (line .entry)) 0 (spareText (lent (now (maps .entry)) (now (ends .entry)) (now (rests .entry))) regs from to) (now (line .exit)) r ⌝ }
+{
+    let mut at = text(line, 0, b"spare");
+    let mut unit: u8 = 0;
+    while unit < 64 {
+        let spare = is_spare(maps, regs, ends, rests, from, to, unit);
+        at = spare_unit(line, at, unit, spare);
+        unit += 1;
+    }
+    byte(line, at, 10)
 }

@@ -36,20 +36,26 @@ number-same-length t c = search needs
 
 number-returns : (t : ℕ) → number-lts.Need-returns (byte-reads.Asked, byte-reads.Learnt, number-below t, number.Post) (number-at t) number.Post
 number-returns t c =
-    laws.named (sym (laws.number-one (c .before .before .before .before .before .before .args .n) (c .before .before .before .before .if1 .taken))) (c .before .before .byte .ensures)
+    (
+      laws.named (sym (laws.number-one (c .before .before .before .before .before .before .args .n) (c .before .before .before .before .if1 .taken))) (c .before .before .byte .ensures),
+      omega (arith, c .before .before .byte .ensures .place),
+    )
 
 number-number-requires : (t : ℕ) → number-lts.Need-number-requires (byte-reads.Asked, byte-reads.Learnt, number-below t, number.Post) (number-at t) number.Post
 number-number-requires t c κs = (omega (arith, c .before .before .before .pre .0, c .before .if1 .left), c .before .before .before .pre .1)
 
 number-byte-requires-2 : (t : ℕ) → number-lts.Need-byte-requires-2 (byte-reads.Asked, byte-reads.Learnt, number-below t, number.Post) (number-at t) number.Post
-number-byte-requires-2 t c κs = omega (arith, c .before .before .before .number .ensures .place, laws.number-length (c .before .before .before .before .before .before .before .args .n / 10), c .before .before .before .before .before .before .before .pre .1)
+number-byte-requires-2 t c κs = omega (arith, c .before .before .before .number .ensures .1, c .before .before .before .before .before .before .before .pre .1)
 
 number-same-length-2 : (t : ℕ) → number-lts.Need-same-length-2 (byte-reads.Asked, byte-reads.Learnt, number-below t, number.Post) (number-at t) number.Post
 number-same-length-2 t c = search needs
 
 number-returns-2 : (t : ℕ) → number-lts.Need-returns-2 (byte-reads.Asked, byte-reads.Learnt, number-below t, number.Post) (number-at t) number.Post
 number-returns-2 t c =
-    laws.named (sym (laws.number-more (c .before .before .before .before .before .before .before .before .before .before .args .n) (omega (arith, c .before .before .before .before .before .before .before .before .if1 .left)) (omega arith))) (laws.then (c .before .before .before .before .before .before .number .ensures) (c .before .before .byte2 .ensures))
+    let w =
+    laws.named (sym (laws.number-more (c .before .before .before .before .before .before .before .before .before .before .args .n) (omega (arith, c .before .before .before .before .before .before .before .before .if1 .left)) (omega arith)))
+    (laws.then (c .before .before .before .before .before .before .number .ensures .0) (c .before .before .byte2 .ensures)) in
+    (w, omega (arith, w .place, laws.number-length (c .before .before .before .before .before .before .before .before .before .before .args .n)))
 
 pub +number-spec : {M : Type 1} → statement M
 +number-spec =
