@@ -1,6 +1,7 @@
 -- The spare line's loops: what is left from here is the whole. Assumes nothing.
 use Prim.Native.Nat.{ℕ, suc, _+_, _-_, _^_, _/_, _%_, _≤_, _<_}
 use native.Mathlib.Omega.{arith}
+use native.Mathlib.Nat.{sub-zero}
 use native.Mathlib.Numerals.{add-one}
 use mathlib.Core.Path.{_≡_, refl}
 use mathlib.Core.Logic.{_≢_}
@@ -10,13 +11,17 @@ use lib.ListN.{getD}
 use borrow.Author.Tests.{eq-eqb, ne-eqb}
 use Rattle.reg_matrix.specs.Lists.{concatMap, filter, any, bit, count, keep}
 use Rattle.reg_matrix.specs.Lines.{number, sp}
-use Rattle.listing.specs.Walk.{unitsText}
+use Rattle.listing.specs.Walk.{isRegisterUnit, unitsText}
 
 -- ---- a unit of a register
 
 module _ (maps : List ℕ) (n u : ℕ) where
   abbrev pub unitFrom : ℕ → Bool
   unitFrom i = any (λ r. bit u (getD maps r 0)) (count i (n - i))
+
+  pub unit-start : unitFrom 0 ≡ isRegisterUnit maps n u
+  unfolding isRegisterUnit
+  unit-start = rw sub-zero
 
   pub unit-here : (i : ℕ) → i < n → getD maps i 0 / 2 ^ u % 2 ≡ 1 → unitFrom i ≡ true
   unfolding any count

@@ -7,7 +7,7 @@ ghost use lib.ListN.{length};
 ghost use Rattle.reg_matrix.specs.Lines.{number as decimal, sp, refusedLine, indexText, reservationText, entryLine};
 ghost use Rattle.allocator.specs.Sheet.{endWord, endLine, standing as standingOf};
 ghost use Rattle.listing.specs.Texts.{Appended};
-ghost use Rattle.listing.specs.Walk.{lent, standingText, isRegisterUnit, isSpare, spareText};
+ghost use Rattle.listing.specs.Walk.{lent, standingText, isRegisterUnit, isFree, isSpare, spareText};
 use allocator::Assignment;
 use allocator::Ending;
 use lent::at;
@@ -181,6 +181,16 @@ fn is_register_unit(maps: &[u64], regs: u8, unit: u8) -> bool
     false
 }
 
+fn is_free(answer: UnitFree) -> bool
+    ensures { λ r. ⌜ r ≡ isFree answer ⌝ }
+{
+    match answer {
+        UnitFree::Free => true,
+        UnitFree::Taken => false,
+        UnitFree::NotAsked(_) => false,
+    }
+}
+
 // Whether the spare line has a unit.
 fn is_spare(
     maps: &[u64],
@@ -194,15 +204,10 @@ fn is_spare(
     requires { ⌜ unit < 64 ⌝ }
     ensures { λ r. ⌜ r ≡ isSpare (lent (now (maps .entry)) (now (ends .entry)) (now (rests .entry))) regs from to unit ⌝ }
 {
-    if !is_register_unit(maps, regs, unit) {
-        return false;
+    if is_register_unit(maps, regs, unit) {
+        return is_free(is_unit_free(ends, rests, unit, from, to));
     }
-    let free = is_unit_free(ends, rests, unit, from, to);
-    match free {
-        UnitFree::Free => true,
-        UnitFree::Taken => false,
-        UnitFree::NotAsked(_) => false,
-    }
+    false
 }
 
 // A unit of the spare line, where it is spare.

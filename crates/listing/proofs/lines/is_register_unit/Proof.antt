@@ -14,8 +14,7 @@ abbrev μ-loop : tie.MeasureT-loop
 μ-loop maps regs unit u n i₀ i = regs - i
 
 loop-holds : tie.Need-loop-holds Inv-loop μ-loop
-unfolding isRegisterUnit
-loop-holds c = (omega arith, refl)
+loop-holds c = (omega arith, laws.unit-start (c .before .args .maps .now) (c .before .args .regs) (c .before .args .unit))
 
 at-requires : tie.Need-at-requires Inv-loop μ-loop
 at-requires c κs = search needs
