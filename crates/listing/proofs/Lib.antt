@@ -1,3 +1,4 @@
 pub mod TextLaws
 pub mod SpareLaws
 pub mod WalkLaws
+pub mod LineLaws

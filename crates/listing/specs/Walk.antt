@@ -120,3 +120,37 @@ numberAt Head = 0
 numberAt (VirtReg v) = cond (ltb v 512) v 0
 numberAt (Entry i) = 0
 numberAt End = 0
+
+-- ---- the lines from a position on, where `rs` are the records
+
+-- the record that a place asks about
+abbrev pub recordAt : List Assignment → Place → Assignment
+recordAt rs p = getD rs (numberAt p) Dead
+
+abbrev pub spareLines : Probe → ℕ → Lent → List (List ℕ)
+spareLines NoProbe n l = []
+spareLines (Over from to) n l = spareText l n from to ∷ []
+
+-- k places of the table, from place i on
+unfoldable pub entryLines : ℕ → ℕ → JobHeader → Lent → List (List ℕ)
+entryLines zero i h l = spareLines (h .probe) (h .regs) l
+entryLines (suc k) i h l = cond (isEntry (l .ends) i) (entryAt l i ∷ entryLines k (i + 1) h l) (spareLines (h .probe) (h .regs) l)
+
+-- k virtual registers, from v on
+unfoldable pub virtRegLines : ℕ → ℕ → List Assignment → JobHeader → Lent → List (List ℕ)
+virtRegLines zero v rs h l = entryLines maxEntries 0 h l
+virtRegLines (suc k) v rs h l = standingText v (recordAt rs (VirtReg v)) ∷ virtRegLines k (v + 1) rs h l
+
+abbrev pub linesAt : Place → Listing → List Assignment → Lent → List (List ℕ)
+linesAt Head c rs l = endLine (c .ending) (c .dequeues) ∷ virtRegLines (c .header .«virt_regs») 0 rs (c .header) l
+linesAt (VirtReg v) c rs l = virtRegLines (c .header .«virt_regs» - v) v rs (c .header) l
+linesAt (Entry i) c rs l = entryLines (maxEntries - i) i (c .header) l
+linesAt End c rs l = []
+
+unfoldable pub linesFrom : Listing → List Assignment → Lent → List (List ℕ)
+linesFrom c rs l = linesAt (c .place) c rs l
+
+-- a line, and those from the position after it
+abbrev pub linesOf : Listing → List Assignment → Lent → Found → List (List ℕ)
+linesOf c rs l noMore = []
+linesOf c rs l (aLine text p) = text ∷ linesFrom (moved c p) rs l
