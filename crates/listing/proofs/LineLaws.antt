@@ -23,11 +23,15 @@ use Rattle.job.specs.declared.Probe.{Probe}
 use Rattle.job.specs.declared.Probe.the-variants.{Over, NoProbe}
 use Rattle.job.specs.declared.JobHeader.{JobHeader}
 use Rattle.allocator.specs.declared.Assignment.{Assignment}
-use Rattle.allocator.specs.Sheet.{endLine}
+use Rattle.allocator.specs.declared.Assignment.the-variants.{Assigned, Unassigned, Dead}
+use Rattle.allocator.specs.declared.Ending.{Ending}
+use Rattle.allocator.specs.declared.Ending.the-variants.{Done, Spent, TooMany}
+use Rattle.allocator.specs.Sheet.{endWord, endLine, standing}
 use Rattle.listing.specs.declared.Place.{Place}
 use Rattle.listing.specs.declared.Place.the-variants.{Head, VirtReg, Entry as EntryAt, End}
 use Rattle.listing.specs.declared.Listing.{Listing}
-use Rattle.listing.specs.Walk.{Lent, Found, noMore, aLine, standingText, spareText, isEntry, entryAt, spareFound, entryFound, virtRegFound, foundAt, found, moved, recordAt, spareLines, entryLines, virtRegLines, linesAt, linesFrom, linesOf}
+use Rattle.listing.proofs.TextLaws.{number-length, number-short}
+use Rattle.listing.specs.Walk.{lineLimit, Lent, Found, noMore, aLine, standingText, isSpare, unitsText, spareText, isEntry, entryAt, spareFound, entryFound, virtRegFound, foundAt, found, moved, recordAt, spareLines, entryLines, virtRegLines, linesAt, linesFrom, linesOf}
 
 -- ---- one by one
 
@@ -84,3 +88,114 @@ module _ (c : Listing) (rs : List Assignment) (l : Lent) where
 pub front : (s text : List ℕ) → length text ≤ length s → take (length text) (sets s 0 text) ≡ text
 front s text h =
     ap (take (length text)) (sets-eq text s 0 (omega (arith, h))) ∙ take-append-seam text (drop (0 + length text) s)
+
+most : (x y : List ℕ) (a b : ℕ) → length x ≤ a → length y ≤ b → length (x ++ y) ≤ a + b
+most x y a b h k = omega (arith, h, k, length-append x y)
+
+spaced-most : (n : ℕ) → length (sp (number n)) ≤ 21
+spaced-most n = omega (arith, number-length n)
+
+end-room : (w : Ending) (n : ℕ) → length (endLine w n) ≤ 256
+unfolding ascii
+end-room w n =
+    omega (
+      arith,
+      most (ascii "end " ++ endWord w ++ sp (number n)) (10 ∷ []) 32 1
+          (most (ascii "end " ++ endWord w) (sp (number n)) 11 21 (most (ascii "end ") (endWord w) 4 7 (omega arith) (word w)) (spaced-most n)) (omega arith),
+    )
+  where
+    word : (w : Ending) → length (endWord w) ≤ 7
+    word Done = omega arith
+    word Spent = omega arith
+    word TooMany = omega arith
+
+standing-room : (v : ℕ) (a : Assignment) → length (standingText v a) ≤ 256
+unfolding ascii standingText
+standing-room v a =
+    omega (
+      arith,
+      most (ascii "v " ++ number v ++ standing a) (10 ∷ []) 47 1
+          (most (ascii "v " ++ number v) (standing a) 22 25 (most (ascii "v ") (number v) 2 20 (omega arith) (number-length v)) (stands a)) (omega arith),
+    )
+  where
+    stands : (a : Assignment) → length (standing a) ≤ 25
+    stands (Assigned f r w) = omega (arith, number-length r)
+    stands (Unassigned f) = omega arith
+    stands Dead = omega arith
+
+entry-room : (e : Entry) → length (entryLine e) ≤ 256
+unfolding ascii entryLine reservationText
+entry-room e =
+    let a = most (ascii "u ") (number (e .unit)) 2 20 (omega arith) (number-length (e .unit)) in
+    let b = most (ascii "u " ++ number (e .unit)) (sp (number (e .from))) 22 21 a (spaced-most (e .from)) in
+    let c = most (ascii "u " ++ number (e .unit) ++ sp (number (e .from))) (sp (number (e .to))) 43 21 b (spaced-most (e .to)) in
+    let d = most (ascii "u " ++ number (e .unit) ++ sp (number (e .from)) ++ sp (number (e .to))) (reservationText (e .reservation)) 64 47 c (held (e .reservation)) in
+    omega (arith, most (ascii "u " ++ number (e .unit) ++ sp (number (e .from)) ++ sp (number (e .to)) ++ reservationText (e .reservation)) (10 ∷ []) 111 1 d (omega arith))
+  where
+    index : (i : FixedIndex) → length (sp (indexText i)) ≤ 21
+    index NoIndex = omega arith
+    index (At i) = spaced-most i
+
+    held : (r : Reservation) → length (reservationText r) ≤ 47
+    held (Held v i) = most (ascii " held " ++ number v) (sp (indexText i)) 26 21 (most (ascii " held ") (number v) 6 20 (omega arith) (number-length v)) (index i)
+    held (FixedUse x) = omega (arith, most (ascii " use ") (number x) 5 20 (omega arith) (number-length x))
+    held FixedDef = omega arith
+
+units-most : (p : ℕ → Bool) (n u : ℕ) → u + n ≤ 64 → length (concatMap (λ u. sp (number u)) (filter p (count u n))) ≤ 3 * n
+unfolding concatMap filter count
+units-most p zero u h = omega arith
+units-most p (suc n) u h = go (p u) (units-most p n (suc u) (omega arith))
+  where
+    go : (b : Bool)
+        → length (concatMap (λ u. sp (number u)) (filter p (count (suc u) n))) ≤ 3 * n
+        → length (concatMap (λ u. sp (number u)) (keep b u (filter p (count (suc u) n)))) ≤ 3 * suc n
+    go true k =
+        omega (
+          arith,
+          most (sp (number u)) (concatMap (λ u. sp (number u)) (filter p (count (suc u) n))) 3 (3 * n) (omega (arith, number-short u (omega arith))) k,
+        )
+    go false k = omega (arith, k)
+
+spare-room : (l : Lent) (n from to : ℕ) → length (spareText l n from to) ≤ 256
+unfolding ascii spareText unitsText
+spare-room l n from to =
+    let units = concatMap (λ u. sp (number u)) (filter (isSpare l n from to) (count 0 64)) in
+    omega (
+      arith,
+      most (ascii "spare" ++ units) (10 ∷ []) 197 1
+          (most (ascii "spare") units 5 192 (omega arith) (units-most (isSpare l n from to) 64 0 (omega arith))) (omega arith),
+    )
+
+-- what was found has room in a line of 256 bytes
+abbrev pub Room : Found → Type 0
+Room noMore = Unit {0}
+Room (aLine text p) = length text ≤ lineLimit
+
+module _ (c : Listing) (a : Assignment) (l : Lent) where
+  room-spare : (p : Probe) (n : ℕ) → Room (spareFound p n l)
+  room-spare NoProbe n = tt
+  room-spare (Over from to) n = spare-room l n from to
+
+  room-entry : (i : ℕ) → Room (entryFound i (c .header) l)
+  unfolding entryFound
+  room-entry i = go (isEntry (l .ends) i)
+    where
+      go : (b : Bool) → Room (cond b (aLine (entryAt l i) (EntryAt (i + 1))) (spareFound (c .header .probe) (c .header .regs) l))
+      go true = entry-room (entryOf (getD (l .ends) i 0) (getD (l .rests) i 0))
+      go false = room-spare (c .header .probe) (c .header .regs)
+
+  room-at : (p : Place) → Room (foundAt p c a l)
+  unfolding virtRegFound
+  room-at Head = end-room (c .ending) (c .dequeues)
+  room-at (VirtReg v) = go (ltb v (c .header .«virt_regs»))
+    where
+      go : (b : Bool) → Room (cond b (aLine (standingText v a) (VirtReg (v + 1))) (entryFound 0 (c .header) l))
+      go true = standing-room v a
+      go false = room-entry 0
+  room-at (EntryAt i) = room-entry i
+  room-at End = tt
+
+  -- every line has room
+  pub found-room : Room (found c a l)
+  unfolding found
+  found-room = room-at (c .place)
