@@ -2,3 +2,4 @@ pub mod TextLaws
 pub mod SpareLaws
 pub mod WalkLaws
 pub mod LineLaws
+pub mod SheetLaws
