@@ -30,8 +30,10 @@ use Rattle.allocator.specs.Sheet.{endWord, endLine, standing}
 use Rattle.listing.specs.declared.Place.{Place}
 use Rattle.listing.specs.declared.Place.the-variants.{Head, VirtReg, Entry as EntryAt, End}
 use Rattle.listing.specs.declared.Listing.{Listing}
+use Rattle.listing.specs.declared.Step.{Step}
+use Rattle.listing.specs.declared.Step.the-variants.{Line, Refused, End as NoMore}
 use Rattle.listing.proofs.TextLaws.{number-length, number-short}
-use Rattle.listing.specs.Walk.{lineLimit, Lent, Found, noMore, aLine, standingText, isSpare, unitsText, spareText, isEntry, entryAt, spareFound, entryFound, virtRegFound, foundAt, found, moved, recordAt, spareLines, entryLines, virtRegLines, linesAt, linesFrom, linesOf}
+use Rattle.listing.specs.Walk.{lineLimit, Lent, Found, noMore, aLine, standingText, isSpare, unitsText, spareText, isEntry, entryAt, spareFound, entryFound, virtRegFound, foundAt, found, moved, stepOf, printedOn, recordAt, spareLines, entryLines, virtRegLines, linesAt, linesFrom, linesOf}
 
 -- ---- one by one
 
@@ -199,3 +201,30 @@ module _ (c : Listing) (a : Assignment) (l : Lent) where
   pub found-room : Room (found c a l)
   unfolding found
   found-room = room-at (c .place)
+
+-- ---- what `next` answers, on a lent line that is long enough
+
+-- what is left to print, by the answer: nothing; or the front of the lent line, and then the lines from the next position
+abbrev pub Told : Listing → List Assignment → Lent → List ℕ → Step → Type 0
+Told c rs l t NoMore = linesFrom c rs l ≡ []
+Told c rs l t (Line n next) = linesFrom c rs l ≡ take n t ∷ linesFrom next rs l
+Told c rs l t (Refused n) = ⊥
+
+module _ (c : Listing) (rs : List Assignment) (l : Lent) (s : List ℕ) (long : lineLimit ≤ length s) where
+  found-told : (f : Found) → Room f → linesFrom c rs l ≡ linesOf c rs l f → Told c rs l (printedOn s f) (stepOf c f)
+  found-told noMore k e = e
+  found-told (aLine text p) k e = e ∙ ap (λ (x : List ℕ). x ∷ linesFrom (moved c p) rs l) (sym (front s text (omega (arith, k, long))))
+
+  -- with the record that the position asks about
+  pub next-told :
+      (t : List ℕ) (r : Step)
+      → r ≡ cond (ltb (length s) lineLimit) (Refused 15) (stepOf c (found c (recordAt rs (c .place)) l))
+      → t ≡ cond (ltb (length s) lineLimit) s (printedOn s (found c (recordAt rs (c .place)) l))
+      → Told c rs l t r
+  next-told t r p q =
+      let f = found c (recordAt rs (c .place)) l in
+      let b = le-ltb (length s) lineLimit long in
+      let p′ : r ≡ stepOf c f = p ∙ ap (λ (b : Bool). cond b (Refused 15) (stepOf c f)) b in
+      let q′ : t ≡ printedOn s f = q ∙ ap (λ (b : Bool). cond b s (printedOn s f)) b in
+      subst (λ (x : Step). Told c rs l t x) (sym p′)
+      (subst (λ (x : List ℕ). Told c rs l x (stepOf c f)) (sym q′) (found-told f (found-room c (recordAt rs (c .place)) l) (lines-told c rs l)))

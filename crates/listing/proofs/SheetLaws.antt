@@ -134,7 +134,7 @@ module _ (j : Job) (s : State) (g : Good j s) (rs : List Assignment) (l : Lent) 
       let rest = together (entryLines maxEntries 0 (headerOf j) l) in
       ap (λ (x : List ℕ). x ++ together (virtRegLines n (v + 1) rs (headerOf j) l)) (standing-at v (omega arith))
       ∙ ap (λ (x : List ℕ). standingLine s v ++ x)
-          (virt-lines n (v + 1) (omega arith) ∙ ap (λ (k : ℕ). concatMap (standingLine s) (count k n) ++ rest) (add-one v))
+      (virt-lines n (v + 1) (omega arith) ∙ ap (λ (k : ℕ). concatMap (standingLine s) (count k n) ++ rest) (add-one v))
       ∙ sym (append-assoc (standingLine s v) (concatMap (standingLine s) (count (suc v) n)) rest)
 
   -- ---- the entries
@@ -283,9 +283,9 @@ module _ (j : Job) (s : State) (g : Good j s) (rs : List Assignment) (l : Lent) 
       let entries = concatMap entryLine (s .table) in
       let spare = spareLine j (s .table) (j .probe) in
       ap (λ (x : List ℕ). head ++ x)
-          (virt-lines (length (j .virtRegs)) 0 (omega (arith, g .premises .few-numbers))
-          ∙ ap (λ (x : List ℕ). virtRegs ++ x)
-              (entry-lines [] (s .table) refl ∙ ap (λ (x : List ℕ). entries ++ x) (spare-lines (j .probe) (g .premises .probe))))
+      (virt-lines (length (j .virtRegs)) 0 (omega (arith, g .premises .few-numbers))
+      ∙ ap (λ (x : List ℕ). virtRegs ++ x)
+      (entry-lines [] (s .table) refl ∙ ap (λ (x : List ℕ). entries ++ x) (spare-lines (j .probe) (g .premises .probe))))
       ∙ sym (append-assoc (head ++ virtRegs) entries spare ∙ append-assoc head virtRegs (entries ++ spare))
 
 -- 01, "The printed sheet", on a state reached from loading by calls: the lines of the walk are together the sheet

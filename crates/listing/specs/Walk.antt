@@ -1,4 +1,4 @@
--- The sheet's lines from a position on, in the shape of the code, from any lent numbers; proofs/Sheets.antt ties them to the definition of the sheet.
+-- The sheet's lines from a position on, in the shape of the code, from any lent numbers; proofs/SheetLaws.antt ties them to the definition of the sheet.
 -- Assumes nothing.
 use Prim.Native.Nat.{ℕ, zero, suc, _+_, _-_}
 use mathlib.Core.List.{List, [], _∷_, _++_, map}
@@ -24,8 +24,7 @@ use Rattle.listing.specs.declared.Place.{Place}
 use Rattle.listing.specs.declared.Place.the-variants.{Head, VirtReg, Entry, End}
 use Rattle.listing.specs.declared.Listing.{Listing}
 use Rattle.listing.specs.declared.Step.{Step}
-use Rattle.listing.specs.declared.Step.the-variants.{Line, Refused}
-use Rattle.listing.specs.declared.Step.the-variants.{End as NoMore}
+use Rattle.listing.specs.declared.Step.the-variants.{Line, End as NoMore}
 
 -- the bytes that a lent line must have room for
 abbrev pub lineLimit : ℕ

@@ -6,8 +6,8 @@ use job::JobHeader;
 mod lines;
 pub mod sheet;
 
-// A place in the sheet: the line that is next, or what stands in its place where there is no such line: an entry past the last one is the spare
-// line.
+// Which line is next: the first, that of a virtual register, or that of an entry of the table. Past the last virtual register the entries are next,
+// past the last entry the spare line.
 pub enum Place {
     Head,
     VirtReg(u16),

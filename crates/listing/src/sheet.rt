@@ -1,6 +1,7 @@
 // A walk through the sheet that carries its position by value from line to line (01, "The printed sheet").
 ghost use mathlib.Core.Path.{_≡_};
 ghost use mathlib.Core.Bool.{cond};
+ghost use Prim.Native.Nat.{_<_};
 ghost use lib.Dec.{ltb};
 ghost use lib.ListN.{length};
 ghost use lib.Seq.{sets};
@@ -41,7 +42,7 @@ impl Listing {
 
     // The number of the virtual register whose record `next` asks for, below 512, or 0 where it asks for none.
     pub fn number(self) -> usize
-        ensures { λ r. ⌜ r ≡ numberAt (self .place) ⌝ }
+        ensures { λ r. ⌜ (r ≡ numberAt (self .place)) × (r < 512) ⌝ }
     {
         let place = self.place;
         match place {
@@ -70,13 +71,7 @@ impl Listing {
         }
     }
 
-    fn next_spare(
-        self,
-        maps: &[u64],
-        ends: &[u64],
-        rests: &[u64],
-        line: &mut [u8],
-    ) -> Step
+    fn next_spare(self, maps: &[u64], ends: &[u64], rests: &[u64], line: &mut [u8]) -> Step
         ensures { λ r. ⌜ (r ≡ stepOf self (spareFound (self .header .probe) (self .header .regs) (lent (now (maps .entry)) (now (ends .entry)) (now (rests .entry))))) × (now (line .exit) ≡ printedOn (now (line .entry)) (spareFound (self .header .probe) (self .header .regs) (lent (now (maps .entry)) (now (ends .entry)) (now (rests .entry))))) ⌝ }
     {
         let header = self.header;
@@ -114,31 +109,31 @@ impl Listing {
     fn next_virt_reg(
         self,
         v: u16,
-        a: Assignment,
+        assignment: Assignment,
         maps: &[u64],
         ends: &[u64],
         rests: &[u64],
         line: &mut [u8],
     ) -> Step
-        ensures { λ r. ⌜ (r ≡ stepOf self (virtRegFound v a (self .header) (lent (now (maps .entry)) (now (ends .entry)) (now (rests .entry))))) × (now (line .exit) ≡ printedOn (now (line .entry)) (virtRegFound v a (self .header) (lent (now (maps .entry)) (now (ends .entry)) (now (rests .entry))))) ⌝ }
+        ensures { λ r. ⌜ (r ≡ stepOf self (virtRegFound v assignment (self .header) (lent (now (maps .entry)) (now (ends .entry)) (now (rests .entry))))) × (now (line .exit) ≡ printedOn (now (line .entry)) (virtRegFound v assignment (self .header) (lent (now (maps .entry)) (now (ends .entry)) (now (rests .entry))))) ⌝ }
     {
         let header = self.header;
         if header.virt_regs <= v {
             return self.next_entry(0, maps, ends, rests, line);
         }
-        let n = lines::standing_line(line, v, a);
+        let n = lines::standing_line(line, v, assignment);
         Step::Line(n, self.moved(Place::VirtReg(v + 1)))
     }
 
     fn next_line(
         self,
-        a: Assignment,
+        assignment: Assignment,
         maps: &[u64],
         ends: &[u64],
         rests: &[u64],
         line: &mut [u8],
     ) -> Step
-        ensures { λ r. ⌜ (r ≡ stepOf self (found self a (lent (now (maps .entry)) (now (ends .entry)) (now (rests .entry))))) × (now (line .exit) ≡ printedOn (now (line .entry)) (found self a (lent (now (maps .entry)) (now (ends .entry)) (now (rests .entry))))) ⌝ }
+        ensures { λ r. ⌜ (r ≡ stepOf self (found self assignment (lent (now (maps .entry)) (now (ends .entry)) (now (rests .entry))))) × (now (line .exit) ≡ printedOn (now (line .entry)) (found self assignment (lent (now (maps .entry)) (now (ends .entry)) (now (rests .entry))))) ⌝ }
     {
         let place = self.place;
         match place {
@@ -147,28 +142,28 @@ impl Listing {
                 let n = lines::end_line(line, ending, self.dequeues);
                 Step::Line(n, self.moved(Place::VirtReg(0)))
             }
-            Place::VirtReg(v) => self.next_virt_reg(v, a, maps, ends, rests, line),
+            Place::VirtReg(v) => self.next_virt_reg(v, assignment, maps, ends, rests, line),
             Place::Entry(i) => self.next_entry(i, maps, ends, rests, line),
             Place::End => Step::End,
         }
     }
 
     // Stores the next line of the sheet from the front of the lent line, and answers its length and the position after it, or that there is none.
-    // `a` is the record of the virtual register `number()`; `maps` are the registers' maps of units, `ends` and `rests` the table. Refused with 15
+    // `assignment` is the record of the virtual register `number()`; `maps` are the registers' maps of units, `ends` and `rests` the table. Refused with 15
     // where the lent line is below 256 bytes.
     pub fn next(
         self,
-        a: Assignment,
+        assignment: Assignment,
         maps: &[u64],
         ends: &[u64],
         rests: &[u64],
         line: &mut [u8],
     ) -> Step
-        ensures { λ r. ⌜ (r ≡ cond (ltb (length (now (line .entry))) lineLimit) (Refused 15) (stepOf self (found self a (lent (now (maps .entry)) (now (ends .entry)) (now (rests .entry)))))) × (now (line .exit) ≡ cond (ltb (length (now (line .entry))) lineLimit) (now (line .entry)) (printedOn (now (line .entry)) (found self a (lent (now (maps .entry)) (now (ends .entry)) (now (rests .entry)))))) ⌝ }
+        ensures { λ r. ⌜ (r ≡ cond (ltb (length (now (line .entry))) lineLimit) (Refused 15) (stepOf self (found self assignment (lent (now (maps .entry)) (now (ends .entry)) (now (rests .entry)))))) × (now (line .exit) ≡ cond (ltb (length (now (line .entry))) lineLimit) (now (line .entry)) (printedOn (now (line .entry)) (found self assignment (lent (now (maps .entry)) (now (ends .entry)) (now (rests .entry)))))) ⌝ }
     {
         if line.len() < 256 {
             return Step::Refused(15);
         }
-        self.next_line(a, maps, ends, rests, line)
+        self.next_line(assignment, maps, ends, rests, line)
     }
 }

@@ -35,7 +35,7 @@ same-length c = search needs
 returns : tie.Need-returns
 returns c =
     let a = c .before .before .before .before .before .before .before .before .before .before .before .args in
-    laws.by (a .self) (a .line .now) (laws.found-at (a .self) (a .a) (lent (a .maps .now) (a .ends .now) (a .rests .now)) _ (c .before .before .before .before .before .enum-told .given .1)) (laws.told (a .self) (c .before .before .before .end-line .ensures) (c .moved .ensures))
+    laws.by (a .self) (a .line .now) (laws.found-at (a .self) (a .assignment) (lent (a .maps .now) (a .ends .now) (a .rests .now)) _ (c .before .before .before .before .before .enum-told .given .1)) (laws.told (a .self) (c .before .before .before .end-line .ensures) (c .moved .ensures))
 
 same-length-2 : tie.Need-same-length-2
 same-length-2 c = search needs
@@ -43,7 +43,7 @@ same-length-2 c = search needs
 returns-2 : tie.Need-returns-2
 returns-2 c =
     let a = c .before .before .before .before .before .before .before .before .before .before .before .args in
-    laws.by (a .self) (a .line .now) (laws.found-at (a .self) (a .a) (lent (a .maps .now) (a .ends .now) (a .rests .now)) _ (c .before .before .before .before .before .place .given .1)) (c .before .before .next-virt-reg .ensures)
+    laws.by (a .self) (a .line .now) (laws.found-at (a .self) (a .assignment) (lent (a .maps .now) (a .ends .now) (a .rests .now)) _ (c .before .before .before .before .before .place .given .1)) (c .before .before .next-virt-reg .ensures)
 
 same-length-3 : tie.Need-same-length-3
 same-length-3 c = search needs
@@ -51,12 +51,12 @@ same-length-3 c = search needs
 returns-3 : tie.Need-returns-3
 returns-3 c =
     let a = c .before .before .before .before .before .before .before .before .before .before .before .args in
-    laws.by (a .self) (a .line .now) (laws.found-at (a .self) (a .a) (lent (a .maps .now) (a .ends .now) (a .rests .now)) _ (c .before .before .before .before .before .place2 .given .1)) (c .before .before .next-entry .ensures)
+    laws.by (a .self) (a .line .now) (laws.found-at (a .self) (a .assignment) (lent (a .maps .now) (a .ends .now) (a .rests .now)) _ (c .before .before .before .before .before .place2 .given .1)) (c .before .before .next-entry .ensures)
 
 returns-4 : tie.Need-returns-4
 returns-4 c =
     let a = c .before .before .before .before .before .before .args in
-    laws.by (a .self) (a .line .now) (laws.found-at (a .self) (a .a) (lent (a .maps .now) (a .ends .now) (a .rests .now)) _ (c .enum-told2 .given .1)) (refl, refl)
+    laws.by (a .self) (a .line .now) (laws.found-at (a .self) (a .assignment) (lent (a .maps .now) (a .ends .now) (a .rests .now)) _ (c .enum-told2 .given .1)) (refl, refl)
 
 pub next-line-spec : {M : Type 1} → statement M
 next-line-spec =

@@ -35,11 +35,10 @@ number-same-length : (t : ℕ) → number-lts.Need-same-length (byte-reads.Asked
 number-same-length t c = search needs
 
 number-returns : (t : ℕ) → number-lts.Need-returns (byte-reads.Asked, byte-reads.Learnt, number-below t, number.Post) (number-at t) number.Post
-number-returns t c =
-    (
-      laws.named (sym (laws.number-one (c .before .before .before .before .before .before .args .n) (c .before .before .before .before .if1 .taken))) (c .before .before .byte .ensures),
-      omega (arith, c .before .before .byte .ensures .place),
-    )
+number-returns t c = (
+  laws.named (sym (laws.number-one (c .before .before .before .before .before .before .args .n) (c .before .before .before .before .if1 .taken))) (c .before .before .byte .ensures),
+  omega (arith, c .before .before .byte .ensures .place),
+)
 
 number-number-requires : (t : ℕ) → number-lts.Need-number-requires (byte-reads.Asked, byte-reads.Learnt, number-below t, number.Post) (number-at t) number.Post
 number-number-requires t c κs = (omega (arith, c .before .before .before .pre .0, c .before .if1 .left), c .before .before .before .pre .1)

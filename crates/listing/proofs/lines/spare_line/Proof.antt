@@ -42,8 +42,7 @@ loop-less c = search needs
 loop-again : tie.Need-loop-again Inv-loop μ-loop
 loop-again c =
     let a = c .before .before .before .before .before .before .before .before .before .before .before .before .before .before .before .before .args in
-    let step = spares.units-step (isSpare (lent (a .maps .now) (a .ends .now) (a .rests .now)) (a .regs) (a .from) (a .to)) (c .before .before .before .before .before .before .loop .unit) (c .before .before .before .before .before .loop-test .taken) in
-    (
+    let step = spares.units-step (isSpare (lent (a .maps .now) (a .ends .now) (a .rests .now)) (a .regs) (a .from) (a .to)) (c .before .before .before .before .before .before .loop .unit) (c .before .before .before .before .before .loop-test .taken) in (
       omega arith,
       omega (arith, c .before .before .spare-unit .ensures .1, c .before .before .before .before .before .before .loop .inv .1),
       c .before .before .spare-unit .kept .0 ∙ c .before .before .before .before .before .before .loop .inv .2,
