@@ -2,18 +2,18 @@
 -- lent line of 256 bytes, of which it is the front. Assumes nothing.
 use Prim.Native.Nat.{ℕ, zero, suc, _+_, _-_, _*_, _≤_, _<_}
 use native.Mathlib.Omega.{arith}
-use native.Mathlib.Nat.{sub-zero, zero-add}
+use native.Mathlib.Nat.{sub-zero}
 use native.Mathlib.Decide.{decLt}
 use mathlib.Core.Path.{_≡_, refl, sym, ap, _∙_, subst}
-use mathlib.Core.List.{List, [], _∷_, _++_, append-nil}
-use mathlib.Core.Bool.{Bool, true, false, cond, not, _&&_}
-use lib.Dec.{ltb, eqb}
+use mathlib.Core.List.{List, [], _∷_, _++_}
+use mathlib.Core.Bool.{Bool, true, false, cond}
+use lib.Dec.{ltb}
 use lib.ListN.{length, getD, take, drop, length-append}
 use lib.Seq.{sets, sets-eq, take-append-seam}
 use borrow.Author.Tests.{lt-ltb, le-ltb}
 use Rattle.reg_matrix.specs.Lists.{ascii, concatMap, filter, count, keep}
 use Rattle.reg_matrix.specs.Lines.{number, sp, line, indexText, reservationText, entryLine}
-use Rattle.reg_matrix.specs.Layout.{maxEntries, greatest, entryOf}
+use Rattle.reg_matrix.specs.Layout.{maxEntries, entryOf}
 use Rattle.reg_matrix.specs.declared.Entry.{Entry}
 use Rattle.reg_matrix.specs.declared.FixedIndex.{FixedIndex}
 use Rattle.reg_matrix.specs.declared.FixedIndex.the-variants.{At, NoIndex}
@@ -21,7 +21,6 @@ use Rattle.reg_matrix.specs.declared.Reservation.{Reservation}
 use Rattle.reg_matrix.specs.declared.Reservation.the-variants.{Held, FixedUse, FixedDef}
 use Rattle.job.specs.declared.Probe.{Probe}
 use Rattle.job.specs.declared.Probe.the-variants.{Over, NoProbe}
-use Rattle.job.specs.declared.JobHeader.{JobHeader}
 use Rattle.allocator.specs.declared.Assignment.{Assignment}
 use Rattle.allocator.specs.declared.Assignment.the-variants.{Assigned, Unassigned, Dead}
 use Rattle.allocator.specs.declared.Ending.{Ending}
@@ -33,7 +32,7 @@ use Rattle.listing.specs.declared.Listing.{Listing}
 use Rattle.listing.specs.declared.Step.{Step}
 use Rattle.listing.specs.declared.Step.the-variants.{Line, Refused, End as NoMore}
 use Rattle.listing.proofs.TextLaws.{number-length, number-short}
-use Rattle.listing.specs.Walk.{lineLimit, Lent, Found, noMore, aLine, standingText, isSpare, unitsText, spareText, isEntry, entryAt, spareFound, entryFound, virtRegFound, foundAt, found, moved, stepOf, printedOn, recordAt, spareLines, entryLines, virtRegLines, linesAt, linesFrom, linesOf}
+use Rattle.listing.specs.Walk.{lineLimit, Lent, Found, noMore, aLine, standingText, isSpare, unitsText, spareText, isEntry, entryAt, spareFound, entryFound, virtRegFound, foundAt, found, moved, stepOf, printedOn, AnsweredIfLong, recordAt, spareLines, entryLines, virtRegLines, linesAt, linesFrom, linesOf}
 
 -- ---- one by one
 
@@ -218,13 +217,12 @@ module _ (c : Listing) (rs : List Assignment) (l : Lent) (s : List ℕ) (long : 
   -- with the record that the position asks about
   pub next-told :
       (t : List ℕ) (r : Step)
-      → r ≡ cond (ltb (length s) lineLimit) (Refused 15) (stepOf c (found c (recordAt rs (c .place)) l))
-      → t ≡ cond (ltb (length s) lineLimit) s (printedOn s (found c (recordAt rs (c .place)) l))
+      → AnsweredIfLong c (found c (recordAt rs (c .place)) l) s t r
       → Told c rs l t r
-  next-told t r p q =
+  next-told t r a =
       let f = found c (recordAt rs (c .place)) l in
       let b = le-ltb (length s) lineLimit long in
-      let p′ : r ≡ stepOf c f = p ∙ ap (λ (b : Bool). cond b (Refused 15) (stepOf c f)) b in
-      let q′ : t ≡ printedOn s f = q ∙ ap (λ (b : Bool). cond b s (printedOn s f)) b in
+      let p′ : r ≡ stepOf c f = a .0 ∙ ap (λ (b : Bool). cond b (Refused 15) (stepOf c f)) b in
+      let q′ : t ≡ printedOn s f = a .1 ∙ ap (λ (b : Bool). cond b s (printedOn s f)) b in
       subst (λ (x : Step). Told c rs l t x) (sym p′)
       (subst (λ (x : List ℕ). Told c rs l x (stepOf c f)) (sym q′) (found-told f (found-room c (recordAt rs (c .place)) l) (lines-told c rs l)))

@@ -1,5 +1,5 @@
 -- On a state that calls reach, the lines of the walk are together the printed sheet (document 01, "The printed sheet"). Assumes nothing.
-use Prim.Native.Nat.{ℕ, zero, suc, _+_, _-_, _^_, _≤_, _<_}
+use Prim.Native.Nat.{ℕ, zero, suc, _+_, _-_, _≤_, _<_}
 use native.Mathlib.Omega.{arith}
 use native.Mathlib.Decide.{decLt}
 use native.Mathlib.Numerals.{add-one}
@@ -7,7 +7,7 @@ use mathlib.Core.Path.{_≡_, refl, sym, ap, _∙_, subst}
 use mathlib.Core.List.{List, [], _∷_, _++_, map, append-nil, append-assoc, List·Memᴰ·head, Memᴰ·append-right}
 use mathlib.Core.Option.{Option, none, some}
 use mathlib.Core.Bool.{Bool, true, false, not, cond, _&&_, _||_}
-use lib.Dec.{T, ltb, leb, eqb}
+use lib.Dec.{T, ltb}
 use lib.ListN.{length, getD, replicate, length-map, length-append}
 use lib.Seq.{append-snoc, getD-append-seam}
 use borrow.Author.Tests.{lt-ltb, le-ltb, lt-leb, ne-eqb}
@@ -15,7 +15,7 @@ use Rattle.reg_matrix.specs.Lists.{ascii, concatMap, filter, keep, any, first, 
 use Rattle.reg_matrix.specs.Lines.{number, sp, line, entryLine, tableLines}
 use Rattle.reg_matrix.specs.Refusals.{refusal, shortBuffer, badSlot, rangeRefusal}
 use Rattle.reg_matrix.specs.Table.{Table, onUnit}
-use Rattle.reg_matrix.specs.Layout.{maxEntries, greatest, endWord, restWord, endWords, restWords, entryOf}
+use Rattle.reg_matrix.specs.Layout.{maxEntries, greatest, endWord, restWord, endWords, restWords}
 use Rattle.reg_matrix.specs.Questions.{startsPast, isUnitFree, spareRefusal}
 use Rattle.reg_matrix.specs.declared.ValueSegment.{ValueSegment}
 use Rattle.reg_matrix.specs.declared.Entry.{Entry}
@@ -32,14 +32,12 @@ use Rattle.allocator.specs.State.{State, recordOf, records}
 use Rattle.allocator.specs.declared.Assignment.{Assignment}
 use Rattle.allocator.specs.declared.Assignment.the-variants.{Dead}
 use Rattle.allocator.specs.declared.Ending.{Ending}
-use Rattle.allocator.specs.Run.{Ran}
 use Rattle.allocator.specs.Reached.{Reached}
 use Rattle.allocator.specs.Sheet.{endLine, standing, standingLine, registerUnits, spareLine, sheet}
 use Rattle.allocator.proofs.Good.{Good, good-reached}
 use Rattle.stage.proofs.Reached.{entries-fit, walkable}
 use Rattle.stage.proofs.ReachedMoves.{table-stands, spare-found}
 use Rattle.listing.specs.declared.Place.the-variants.{Head, VirtReg}
-use Rattle.listing.specs.declared.Listing.{Listing}
 use Rattle.listing.specs.Walk.{Lent, standingText, isRegisterUnit, isFree, isSpare, unitsText, spareText, isEntry, entryAt, recordAt, spareLines, entryLines, virtRegLines, linesFrom}
 
 -- ---- lists

@@ -1,5 +1,5 @@
 -- A line that is stored, as the walk answers it. Assumes nothing.
-use Prim.Native.Nat.{ℕ, _+_}
+use Prim.Native.Nat.{ℕ}
 use native.Mathlib.Nat.{zero-add}
 use mathlib.Core.Path.{_≡_, sym, ap, subst}
 use mathlib.Core.List.{List}
@@ -12,22 +12,22 @@ use Rattle.listing.specs.declared.Listing.{Listing}
 use Rattle.listing.specs.declared.Step.{Step}
 use Rattle.listing.specs.declared.Step.the-variants.{Line}
 use Rattle.listing.specs.Texts.{Appended}
-use Rattle.listing.specs.Walk.{Lent, Found, aLine, spareFound, foundAt, found, moved, stepOf, printedOn}
+use Rattle.listing.specs.Walk.{Lent, Found, aLine, spareFound, foundAt, found, moved, Answered}
 
 pub told :
     (c : Listing) {s t text : List ℕ} {n : ℕ} {m : Listing} {p : Place}
     → Appended s 0 text t n
     → m ≡ moved c p
-    → (Line n m ≡ stepOf c (aLine text p)) × (t ≡ printedOn s (aLine text p))
+    → Answered c (aLine text p) s t (Line n m)
 told c {s} {t} {text} {n} {m} {p} a e = (rw (e, a .place, zero-add (length text)), a .line)
 
 -- the answer for what was found by another name
 pub by :
     (c : Listing) (s : List ℕ) {t : List ℕ} {r : Step} {f g : Found}
     → f ≡ g
-    → (r ≡ stepOf c g) × (t ≡ printedOn s g)
-    → (r ≡ stepOf c f) × (t ≡ printedOn s f)
-by c s {t} {r} {f} {g} e p = subst (λ (x : Found). (r ≡ stepOf c x) × (t ≡ printedOn s x)) (sym e) p
+    → Answered c g s t r
+    → Answered c f s t r
+by c s {t} {r} {f} {g} e p = subst (λ (x : Found). Answered c x s t r) (sym e) p
 
 -- by the place that the position is at
 pub found-at : (c : Listing) (a : Assignment) (l : Lent) (p : Place) → c .place ≡ p → found c a l ≡ foundAt p c a l

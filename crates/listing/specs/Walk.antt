@@ -1,7 +1,8 @@
--- The sheet's lines from a position on, in the shape of the code, from any lent numbers; proofs/SheetLaws.antt ties them to the definition of the sheet.
--- Assumes nothing.
+-- The sheet's lines from a position on, in the shape of the code, from any lent numbers; proofs/SheetLaws.antt ties them to the definition of the
+-- sheet. Assumes nothing.
 use Prim.Native.Nat.{ℕ, zero, suc, _+_, _-_}
-use mathlib.Core.List.{List, [], _∷_, _++_, map}
+use mathlib.Core.Path.{_≡_}
+use mathlib.Core.List.{List, [], _∷_, _++_}
 use mathlib.Core.Bool.{Bool, true, false, cond, not, _&&_}
 use lib.Dec.{ltb, eqb}
 use lib.ListN.{length, getD}
@@ -24,7 +25,7 @@ use Rattle.listing.specs.declared.Place.{Place}
 use Rattle.listing.specs.declared.Place.the-variants.{Head, VirtReg, Entry, End}
 use Rattle.listing.specs.declared.Listing.{Listing}
 use Rattle.listing.specs.declared.Step.{Step}
-use Rattle.listing.specs.declared.Step.the-variants.{Line, End as NoMore}
+use Rattle.listing.specs.declared.Step.the-variants.{Line, Refused, End as NoMore}
 
 -- the bytes that a lent line must have room for
 abbrev pub lineLimit : ℕ
@@ -57,7 +58,8 @@ isFree (NotAsked n) = false
 unfoldable pub isSpare : Lent → ℕ → ℕ → ℕ → ℕ → Bool
 isSpare l n from to u =
     isRegisterUnit (l .maps) n u
-    && isFree (spareAnswer (spareRefusal (length (l .ends) ∷ length (l .rests) ∷ []) u (range from to)) (freeAt u from to (words (l .ends) (l .rests))))
+    && isFree
+    (spareAnswer (spareRefusal (length (l .ends) ∷ length (l .rests) ∷ []) u (range from to)) (freeAt u from to (words (l .ends) (l .rests))))
 
 -- the spare units from u on
 unfoldable pub unitsText : (ℕ → Bool) → ℕ → List ℕ
@@ -112,6 +114,15 @@ stepOf c (aLine text p) = Line (length text) (moved c p)
 abbrev pub printedOn : List ℕ → Found → List ℕ
 printedOn s noMore = s
 printedOn s (aLine text p) = sets s 0 text
+
+-- the answer for what was found, where the lent line was s, and how that line is afterwards
+abbrev pub Answered : Listing → Found → List ℕ → List ℕ → Step → Type 0
+Answered c f s t r = (r ≡ stepOf c f) × (t ≡ printedOn s f)
+
+-- the same, or a refusal of a line that is too short, in which nothing is stored
+abbrev pub AnsweredIfLong : Listing → Found → List ℕ → List ℕ → Step → Type 0
+AnsweredIfLong c f s t r =
+    (r ≡ cond (ltb (length s) lineLimit) (Refused 15) (stepOf c f)) × (t ≡ cond (ltb (length s) lineLimit) s (printedOn s f))
 
 -- the number whose record the position asks about
 abbrev pub numberAt : Place → ℕ

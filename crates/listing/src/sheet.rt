@@ -1,14 +1,11 @@
 // A walk through the sheet that carries its position by value from line to line (01, "The printed sheet").
 ghost use mathlib.Core.Path.{_≡_};
-ghost use mathlib.Core.Bool.{cond};
 ghost use Prim.Native.Nat.{_<_};
-ghost use lib.Dec.{ltb};
 ghost use lib.ListN.{length};
 ghost use lib.Seq.{sets};
 ghost use Rattle.reg_matrix.specs.Lines.{refusedLine};
 ghost use Rattle.listing.specs.declared.Place.the-variants.{Head};
-ghost use Rattle.listing.specs.declared.Step.the-variants.{Refused};
-ghost use Rattle.listing.specs.Walk.{lineLimit, lent, found, spareFound, entryFound, virtRegFound, moved as movedTo, stepOf, printedOn, numberAt};
+ghost use Rattle.listing.specs.Walk.{lent, spareFound, entryFound, virtRegFound, found, moved as movedTo, Answered, AnsweredIfLong, numberAt};
 use crate::Listing;
 use crate::Place;
 use crate::Step;
@@ -72,7 +69,7 @@ impl Listing {
     }
 
     fn next_spare(self, maps: &[u64], ends: &[u64], rests: &[u64], line: &mut [u8]) -> Step
-        ensures { λ r. ⌜ (r ≡ stepOf self (spareFound (self .header .probe) (self .header .regs) (lent (now (maps .entry)) (now (ends .entry)) (now (rests .entry))))) × (now (line .exit) ≡ printedOn (now (line .entry)) (spareFound (self .header .probe) (self .header .regs) (lent (now (maps .entry)) (now (ends .entry)) (now (rests .entry))))) ⌝ }
+        ensures { λ r. ⌜ Answered self (spareFound (self .header .probe) (self .header .regs) (lent (now (maps .entry)) (now (ends .entry)) (now (rests .entry)))) (now (line .entry)) (now (line .exit)) r ⌝ }
     {
         let header = self.header;
         let probe = header.probe;
@@ -93,7 +90,7 @@ impl Listing {
         rests: &[u64],
         line: &mut [u8],
     ) -> Step
-        ensures { λ r. ⌜ (r ≡ stepOf self (entryFound i (self .header) (lent (now (maps .entry)) (now (ends .entry)) (now (rests .entry))))) × (now (line .exit) ≡ printedOn (now (line .entry)) (entryFound i (self .header) (lent (now (maps .entry)) (now (ends .entry)) (now (rests .entry))))) ⌝ }
+        ensures { λ r. ⌜ Answered self (entryFound i (self .header) (lent (now (maps .entry)) (now (ends .entry)) (now (rests .entry)))) (now (line .entry)) (now (line .exit)) r ⌝ }
     {
         if 2560 <= i {
             return self.next_spare(maps, ends, rests, line);
@@ -115,7 +112,7 @@ impl Listing {
         rests: &[u64],
         line: &mut [u8],
     ) -> Step
-        ensures { λ r. ⌜ (r ≡ stepOf self (virtRegFound v assignment (self .header) (lent (now (maps .entry)) (now (ends .entry)) (now (rests .entry))))) × (now (line .exit) ≡ printedOn (now (line .entry)) (virtRegFound v assignment (self .header) (lent (now (maps .entry)) (now (ends .entry)) (now (rests .entry))))) ⌝ }
+        ensures { λ r. ⌜ Answered self (virtRegFound v assignment (self .header) (lent (now (maps .entry)) (now (ends .entry)) (now (rests .entry)))) (now (line .entry)) (now (line .exit)) r ⌝ }
     {
         let header = self.header;
         if header.virt_regs <= v {
@@ -133,7 +130,7 @@ impl Listing {
         rests: &[u64],
         line: &mut [u8],
     ) -> Step
-        ensures { λ r. ⌜ (r ≡ stepOf self (found self assignment (lent (now (maps .entry)) (now (ends .entry)) (now (rests .entry))))) × (now (line .exit) ≡ printedOn (now (line .entry)) (found self assignment (lent (now (maps .entry)) (now (ends .entry)) (now (rests .entry))))) ⌝ }
+        ensures { λ r. ⌜ Answered self (found self assignment (lent (now (maps .entry)) (now (ends .entry)) (now (rests .entry)))) (now (line .entry)) (now (line .exit)) r ⌝ }
     {
         let place = self.place;
         match place {
@@ -159,7 +156,7 @@ impl Listing {
         rests: &[u64],
         line: &mut [u8],
     ) -> Step
-        ensures { λ r. ⌜ (r ≡ cond (ltb (length (now (line .entry))) lineLimit) (Refused 15) (stepOf self (found self assignment (lent (now (maps .entry)) (now (ends .entry)) (now (rests .entry)))))) × (now (line .exit) ≡ cond (ltb (length (now (line .entry))) lineLimit) (now (line .entry)) (printedOn (now (line .entry)) (found self assignment (lent (now (maps .entry)) (now (ends .entry)) (now (rests .entry)))))) ⌝ }
+        ensures { λ r. ⌜ AnsweredIfLong self (found self assignment (lent (now (maps .entry)) (now (ends .entry)) (now (rests .entry)))) (now (line .entry)) (now (line .exit)) r ⌝ }
     {
         if line.len() < 256 {
             return Step::Refused(15);

@@ -1,8 +1,8 @@
 -- A number calls itself at a tenth of it: the measure is the number.
 use borrow.Author.Needs.{needs}
-use Prim.Native.Nat.{ℕ, _/_, _%_, _+_, _<_}
+use Prim.Native.Nat.{ℕ, _<_}
 use native.Mathlib.Omega.{arith}
-use mathlib.Core.Path.{_≡_, sym, _∙_}
+use mathlib.Core.Path.{sym}
 use borrow.Fn.Kinds.{In}
 use borrow.Fn.PlainCycle.{Measures, is, falls, and}
 use Rattle.listing.proofs.TextLaws as laws

@@ -1,7 +1,7 @@
 use borrow.Author.Needs.{needs}
 use Prim.Native.Nat.{_≤_, _-_}
 use native.Mathlib.Omega.{arith}
-use mathlib.Core.Path.{_≡_, refl, sym, _∙_}
+use mathlib.Core.Path.{_≡_, sym, _∙_}
 use Rattle.listing.specs.Walk.{isRegisterUnit}
 use Rattle.listing.proofs.SpareLaws as laws
 use Rattle.listing.proofs.lines.is_register_unit.Statement.{statement}

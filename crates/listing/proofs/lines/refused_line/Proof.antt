@@ -1,5 +1,4 @@
 use borrow.Author.Needs.{needs}
-use native.Mathlib.Omega.{arith}
 use Rattle.reg_matrix.specs.Lists.{ascii}
 use Rattle.listing.proofs.TextLaws as laws
 use Rattle.listing.proofs.lines.refused_line.Statement.{statement}
