@@ -192,7 +192,7 @@ fn is_free(answer: UnitFree) -> bool
 }
 
 // Whether the spare line has a unit.
-fn is_spare(
+fn is_free_register_unit(
     maps: &[u64],
     regs: u8,
     ends: &[u64],
@@ -211,7 +211,7 @@ fn is_spare(
 }
 
 // A unit of the spare line, where it is spare.
-fn spare_unit(line: &mut [u8], at: usize, unit: u8, spare: bool) -> usize
+fn free_unit(line: &mut [u8], at: usize, unit: u8, spare: bool) -> usize
     requires { ⌜ (at < 2000) × (unit < 64) ⌝ }
     ensures { λ r. ⌜ Appended (now (line .entry)) at (cond spare (sp (decimal unit)) []) (now (line .exit)) r × (r ≤ at + 3) ⌝ }
 {
@@ -222,7 +222,7 @@ fn spare_unit(line: &mut [u8], at: usize, unit: u8, spare: bool) -> usize
 }
 
 // `spare` and the units of the first `regs` registers that are spare from `from` to `to`.
-pub fn spare_line(
+pub fn free_units_line(
     line: &mut [u8],
     maps: &[u64],
     regs: u8,
@@ -236,8 +236,8 @@ pub fn spare_line(
     let mut at = text(line, 0, b"spare");
     let mut unit: u8 = 0;
     while unit < 64 {
-        let spare = is_spare(maps, regs, ends, rests, from, to, unit);
-        at = spare_unit(line, at, unit, spare);
+        let spare = is_free_register_unit(maps, regs, ends, rests, from, to, unit);
+        at = free_unit(line, at, unit, spare);
         unit += 1;
     }
     byte(line, at, 10)

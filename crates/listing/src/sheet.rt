@@ -68,7 +68,7 @@ impl Listing {
         }
     }
 
-    fn next_spare(self, maps: &[u64], ends: &[u64], rests: &[u64], line: &mut [u8]) -> Step
+    fn next_free_units(self, maps: &[u64], ends: &[u64], rests: &[u64], line: &mut [u8]) -> Step
         ensures { λ r. ⌜ Answered self (spareFound (self .header .probe) (self .header .regs) (lent (now (maps .entry)) (now (ends .entry)) (now (rests .entry)))) (now (line .entry)) (now (line .exit)) r ⌝ }
     {
         let header = self.header;
@@ -76,7 +76,7 @@ impl Listing {
         match probe {
             Probe::NoProbe => Step::End,
             Probe::Over(from, to) => {
-                let n = lines::spare_line(line, maps, header.regs, ends, rests, from, to);
+                let n = lines::free_units_line(line, maps, header.regs, ends, rests, from, to);
                 Step::Line(n, self.moved(Place::End))
             }
         }
@@ -93,11 +93,11 @@ impl Listing {
         ensures { λ r. ⌜ Answered self (entryFound i (self .header) (lent (now (maps .entry)) (now (ends .entry)) (now (rests .entry)))) (now (line .entry)) (now (line .exit)) r ⌝ }
     {
         if 2560 <= i {
-            return self.next_spare(maps, ends, rests, line);
+            return self.next_free_units(maps, ends, rests, line);
         }
         let end = at(ends, i);
         if end == 0xFFFF_FFFF_FFFF_FFFF {
-            return self.next_spare(maps, ends, rests, line);
+            return self.next_free_units(maps, ends, rests, line);
         }
         let n = lines::entry_line(line, entry_of(end, at(rests, i)));
         Step::Line(n, self.moved(Place::Entry(i + 1)))

@@ -5,28 +5,28 @@ use Rattle.listing.proofs.WalkLaws as laws
 use Rattle.listing.proofs.Listing.next_entry.Statement.{statement}
 use Rattle.listing.proofs.Listing.next_entry.Tie as tie
 
-next-spare-requires : tie.Need-next-spare-requires
-next-spare-requires c κs = search needs
+next-free-units-requires : tie.Need-next-free-units-requires
+next-free-units-requires c κs = search needs
 
 same-length : tie.Need-same-length
 same-length c = search needs
 
 returns : tie.Need-returns
 unfolding entryFound
-returns c = rw (le-ltb _ _ (c .before .before .before .before .if1 .taken)) (c .before .before .next-spare .ensures)
+returns c = rw (le-ltb _ _ (c .before .before .before .before .if1 .taken)) (c .before .before .next-free-units .ensures)
 
 at-requires : tie.Need-at-requires
 at-requires c κs = search needs
 
-next-spare-requires-2 : tie.Need-next-spare-requires-2
-next-spare-requires-2 c κs = search needs
+next-free-units-requires-2 : tie.Need-next-free-units-requires-2
+next-free-units-requires-2 c κs = search needs
 
 same-length-2 : tie.Need-same-length-2
 same-length-2 c = search needs
 
 returns-2 : tie.Need-returns-2
 unfolding entryFound
-returns-2 c = rw (lt-ltb _ _ (c .before .before .before .before .before .before .if1 .left), ← c .before .before .before .before .before .at .ensures, eq-eqb _ _ (c .before .before .before .before .if2 .taken)) (c .before .before .next-spare2 .ensures)
+returns-2 c = rw (lt-ltb _ _ (c .before .before .before .before .before .before .if1 .left), ← c .before .before .before .before .before .at .ensures, eq-eqb _ _ (c .before .before .before .before .if2 .taken)) (c .before .before .next-free-units2 .ensures)
 
 at-requires-2 : tie.Need-at-requires-2
 at-requires-2 c κs = search needs
@@ -54,11 +54,11 @@ pub next-entry-spec : {M : Type 1} → statement M
 next-entry-spec =
     tie.close
     (tie.spec
-    next-spare-requires
+    next-free-units-requires
     same-length
     returns
     at-requires
-    next-spare-requires-2
+    next-free-units-requires-2
     same-length-2
     returns-2
     at-requires-2

@@ -1,8 +1,8 @@
 use borrow.Author.Needs.{needs}
 use native.Mathlib.Omega.{arith}
 use Rattle.listing.proofs.TextLaws as laws
-use Rattle.listing.proofs.lines.spare_unit.Statement.{statement}
-use Rattle.listing.proofs.lines.spare_unit.Tie as tie
+use Rattle.listing.proofs.lines.free_unit.Statement.{statement}
+use Rattle.listing.proofs.lines.free_unit.Tie as tie
 
 spaced-requires : tie.Need-spaced-requires
 spaced-requires c κs = search needs
@@ -16,5 +16,5 @@ returns c = (rw (c .before .before .before .before .if1 .taken) (c .before .befo
 returns-2 : tie.Need-returns-2
 returns-2 c = (rw (c .if1 .left) (laws.nothing (c .before .before .args .line .now) (c .before .before .args .at)), omega arith)
 
-pub spare-unit-spec : {M : Type 1} → statement M
-spare-unit-spec = tie.close (tie.spec spaced-requires same-length returns returns-2)
+pub free-unit-spec : {M : Type 1} → statement M
+free-unit-spec = tie.close (tie.spec spaced-requires same-length returns returns-2)

@@ -9,8 +9,8 @@ use Rattle.listing.specs.Texts.{Appended}
 use Rattle.listing.specs.Walk.{lent, isSpare, unitsText, spareText}
 use Rattle.listing.proofs.TextLaws as laws
 use Rattle.listing.proofs.SpareLaws as spares
-use Rattle.listing.proofs.lines.spare_line.Statement.{statement}
-use Rattle.listing.proofs.lines.spare_line.Tie as tie
+use Rattle.listing.proofs.lines.free_units_line.Statement.{statement}
+use Rattle.listing.proofs.lines.free_units_line.Tie as tie
 
 abbrev Inv-loop : tie.InvT-loop
 Inv-loop line₀ maps regs ends rests from to at₀ unit₀ line at unit = (unit ≤ 64) × (at ≤ 5 + 3 * unit) × (length line ≡ length line₀) × ((t : List ℕ) (k : ℕ) → Appended line at (unitsText (isSpare (lent maps ends rests) regs from to) unit) t k → Appended line₀ at₀ (unitsText (isSpare (lent maps ends rests) regs from to) 0) t k)
@@ -27,11 +27,11 @@ text-requires c κs = search needs
 loop-holds : tie.Need-loop-holds Inv-loop μ-loop
 loop-holds c = (omega arith, omega (arith, c .before .before .text .ensures .place), refl, λ t k a. a)
 
-is-spare-requires : tie.Need-is-spare-requires Inv-loop μ-loop
-is-spare-requires c κs = search needs
+is-free-register-unit-requires : tie.Need-is-free-register-unit-requires Inv-loop μ-loop
+is-free-register-unit-requires c κs = search needs
 
-spare-unit-requires : tie.Need-spare-unit-requires Inv-loop μ-loop
-spare-unit-requires c κs = search needs
+free-unit-requires : tie.Need-free-unit-requires Inv-loop μ-loop
+free-unit-requires c κs = search needs
 
 add-unit : tie.Need-add-unit Inv-loop μ-loop
 add-unit c = search needs
@@ -44,9 +44,9 @@ loop-again c =
     let a = c .before .before .before .before .before .before .before .before .before .before .before .before .before .before .before .before .args in
     let step = spares.units-step (isSpare (lent (a .maps .now) (a .ends .now) (a .rests .now)) (a .regs) (a .from) (a .to)) (c .before .before .before .before .before .before .loop .unit) (c .before .before .before .before .before .loop-test .taken) in (
       omega arith,
-      omega (arith, c .before .before .spare-unit .ensures .1, c .before .before .before .before .before .before .loop .inv .1),
-      c .before .before .spare-unit .kept .0 ∙ c .before .before .before .before .before .before .loop .inv .2,
-      λ t k b. c .before .before .before .before .before .before .loop .inv .3 t k (laws.named (sym step) (laws.then (rw (c .before .before .before .before .is-spare .ensures) at (c .before .before .spare-unit .ensures .0)) b)),
+      omega (arith, c .before .before .free-unit .ensures .1, c .before .before .before .before .before .before .loop .inv .1),
+      c .before .before .free-unit .kept .0 ∙ c .before .before .before .before .before .before .loop .inv .2,
+      λ t k b. c .before .before .before .before .before .before .loop .inv .3 t k (laws.named (sym step) (laws.then (rw (c .before .before .before .before .is-free-register-unit .ensures) at (c .before .before .free-unit .ensures .0)) b)),
     )
 
 byte-requires : tie.Need-byte-requires Inv-loop μ-loop
@@ -62,8 +62,8 @@ returns c =
     let last = spares.units-end (isSpare (lent (a .maps .now) (a .ends .now) (a .rests .now)) (a .regs) (a .from) (a .to)) (c .before .before .before .before .before .loop .unit) (c .before .before .before .before .loop-test .left) in
     laws.then (laws.then (c .before .before .before .before .before .before .before .before .text .ensures) (c .before .before .before .before .before .loop .inv .3 (c .before .before .before .before .before .loop .line) (c .before .before .before .before .before .loop .at) (laws.named (sym last) (laws.nothing (c .before .before .before .before .before .loop .line) (c .before .before .before .before .before .loop .at))))) (c .before .before .byte .ensures)
 
-pub spare-line-spec : {M : Type 1} → statement M
-spare-line-spec =
+pub free-units-line-spec : {M : Type 1} → statement M
+free-units-line-spec =
     tie.close
     (tie.spec
     Inv-loop
@@ -71,8 +71,8 @@ spare-line-spec =
     slice-aggregate-text
     text-requires
     loop-holds
-    is-spare-requires
-    spare-unit-requires
+    is-free-register-unit-requires
+    free-unit-requires
     add-unit
     loop-less
     loop-again

@@ -1,7 +1,7 @@
 use borrow.Author.Needs.{needs}
 use Rattle.listing.specs.Walk.{isSpare}
-use Rattle.listing.proofs.lines.is_spare.Statement.{statement}
-use Rattle.listing.proofs.lines.is_spare.Tie as tie
+use Rattle.listing.proofs.lines.is_free_register_unit.Statement.{statement}
+use Rattle.listing.proofs.lines.is_free_register_unit.Tie as tie
 
 is-register-unit-requires : tie.Need-is-register-unit-requires
 is-register-unit-requires c κs = search needs
@@ -20,7 +20,7 @@ returns-2 : tie.Need-returns-2
 unfolding isSpare
 returns-2 c = rw (← c .before .is-register-unit .ensures, c .if1 .left)
 
-pub is-spare-spec : {M : Type 1} → statement M
-is-spare-spec =
+pub is-free-register-unit-spec : {M : Type 1} → statement M
+is-free-register-unit-spec =
     tie.close
     (tie.spec is-register-unit-requires is-unit-free-requires is-free-requires returns returns-2)
