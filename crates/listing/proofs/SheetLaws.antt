@@ -23,6 +23,7 @@ use Rattle.reg_matrix.proofs.Members.{_∈_}
 use Rattle.reg_matrix.proofs.Places.{padded-length, from-zero}
 use Rattle.matrix.specs.Moves.{words}
 use Rattle.matrix.specs.Placing.{freeAt, range, spareAnswer}
+use Rattle.matrix.proofs.Asked.{filled-at}
 use Rattle.matrix.proofs.Decode.{entry-back}
 use Rattle.matrix.proofs.Evicted.{word-at}
 use Rattle.job.specs.Model.{Job}
@@ -45,13 +46,6 @@ use Rattle.listing.specs.Walk.{Lent, standingText, isRegisterUnit, isFre
 -- the lines, one after another
 abbrev pub together : List (List ℕ) → List ℕ
 together ls = concatMap (λ x. x) ls
-
-filled-at : (n d : ℕ) (xs behind : List ℕ) → length xs < n → getD (padded n d xs ++ behind) (length xs) 0 ≡ d
-unfolding padded
-filled-at n d xs behind h =
-    let k = n - length xs - 1 in
-    let e : n - length xs ≡ suc k = omega arith in
-    rw e (ap (λ (l : List ℕ). getD l (length xs) 0) (append-assoc xs (d ∷ replicate k d) behind) ∙ getD-append-seam xs d (replicate k d ++ behind) 0)
 
 any-places :
     (p : ℕ → Bool) (maps front xs behind : List ℕ)
