@@ -12,7 +12,7 @@ use lib.ListN.{length, getD, take, drop, length-append}
 use lib.Seq.{sets, sets-eq, take-append-seam}
 use borrow.Author.Tests.{lt-ltb, le-ltb}
 use Rattle.reg_matrix.specs.Lists.{ascii, concatMap, filter, count, keep}
-use Rattle.reg_matrix.specs.Lines.{number, sp, line, indexText, reservationText, entryLine}
+use Rattle.reg_matrix.specs.Lines.{number, sp, line, refusedLine, indexText, reservationText, entryLine}
 use Rattle.reg_matrix.specs.Layout.{maxEntries, entryOf}
 use Rattle.reg_matrix.specs.declared.Entry.{Entry}
 use Rattle.reg_matrix.specs.declared.FixedIndex.{FixedIndex}
@@ -95,6 +95,13 @@ most x y a b h k = omega (arith, h, k, length-append x y)
 
 spaced-most : (n : ℕ) → length (sp (number n)) ≤ 21
 spaced-most n = omega (arith, number-length n)
+
+-- a refusal's line is the front of a line of 256 bytes
+pub refused-front : (s : List ℕ) (n : ℕ) → lineLimit ≤ length s → take (length (refusedLine n)) (sets s 0 (refusedLine n)) ≡ refusedLine n
+unfolding ascii
+refused-front s n h =
+    front s (refusedLine n)
+    (omega (arith, h, most (ascii "refused " ++ number n) (10 ∷ []) 28 1 (most (ascii "refused ") (number n) 8 20 (omega arith) (number-length n)) (omega arith)))
 
 end-room : (w : Ending) (n : ℕ) → length (endLine w n) ≤ 256
 unfolding ascii

@@ -18,7 +18,7 @@ pub enum Place {
 // A position in the sheet of a run with this ending and as many dequeues, of a job with this header.
 pub struct Listing {
     pub ending: Ending,
-    pub dequeues: u32,
+    pub dequeues: u64,
     pub header: JobHeader,
     pub place: Place,
 }

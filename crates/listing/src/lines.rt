@@ -46,6 +46,7 @@ fn number(line: &mut [u8], at: usize, n: u64) -> usize
     requires { ⌜ at < 2048 ⌝ }
     ensures { λ r. ⌜ Appended (now (line .entry)) at (decimal n) (now (line .exit)) r × (r ≤ at + 20) ⌝ }
 {
+    // 48 is the digit 0
     let last = (48 + n % 10) as u8;
     if n < 10 {
         return byte(line, at, last);
@@ -59,7 +60,7 @@ fn spaced(line: &mut [u8], at: usize, n: u64) -> usize
     requires { ⌜ at < 2000 ⌝ }
     ensures { λ r. ⌜ Appended (now (line .entry)) at (sp (decimal n)) (now (line .exit)) r × (r ≤ at + 21) ⌝ }
 {
-    let next = byte(line, at, 32);
+    let next = byte(line, at, b' ');
     number(line, next, n)
 }
 
@@ -75,13 +76,13 @@ fn end_word(line: &mut [u8], at: usize, ending: Ending) -> usize
 }
 
 // `end WORD DEQUEUES`.
-pub fn end_line(line: &mut [u8], ending: Ending, dequeues: u32) -> usize
+pub fn end_line(line: &mut [u8], ending: Ending, dequeues: u64) -> usize
     ensures { λ r. ⌜ Appended (now (line .entry)) 0 (endLine ending dequeues) (now (line .exit)) r ⌝ }
 {
     let a = text(line, 0, b"end ");
     let b = end_word(line, a, ending);
-    let c = spaced(line, b, dequeues as u64);
-    byte(line, c, 10)
+    let c = spaced(line, b, dequeues);
+    byte(line, c, b'\n')
 }
 
 // `refused N`.
@@ -90,7 +91,7 @@ pub fn refused_line(line: &mut [u8], n: u8) -> usize
 {
     let a = text(line, 0, b"refused ");
     let b = number(line, a, n as u64);
-    byte(line, b, 10)
+    byte(line, b, b'\n')
 }
 
 fn standing(line: &mut [u8], at: usize, assignment: Assignment) -> usize
@@ -120,7 +121,7 @@ pub fn standing_line(line: &mut [u8], v: u16, assignment: Assignment) -> usize
     let a = text(line, 0, b"v ");
     let b = number(line, a, v as u64);
     let c = standing(line, b, assignment);
-    byte(line, c, 10)
+    byte(line, c, b'\n')
 }
 
 fn index(line: &mut [u8], at: usize, i: FixedIndex) -> usize
@@ -161,7 +162,7 @@ pub fn entry_line(line: &mut [u8], entry: Entry) -> usize
     let d = spaced(line, c, entry.to as u64);
     let held = entry.reservation;
     let e = reservation(line, d, held);
-    byte(line, e, 10)
+    byte(line, e, b'\n')
 }
 
 // Whether a unit is one of those of the first `regs` registers.
@@ -240,5 +241,5 @@ pub fn free_units_line(
         at = free_unit(line, at, unit, spare);
         unit += 1;
     }
-    byte(line, at, 10)
+    byte(line, at, b'\n')
 }

@@ -26,7 +26,7 @@ pub fn refused(n: u8, line: &mut [u8]) -> usize
 
 impl Listing {
     // The position before the first line of the sheet.
-    pub fn start(ending: Ending, dequeues: u32, header: JobHeader) -> Listing
+    pub fn start(ending: Ending, dequeues: u64, header: JobHeader) -> Listing
         ensures { λ r. ⌜ r ≡ record { ending = ending; dequeues = dequeues; header = header; place = Head } ⌝ }
     {
         Listing {
@@ -146,8 +146,8 @@ impl Listing {
     }
 
     // Stores the next line of the sheet from the front of the lent line, and answers its length and the position after it, or that there is none.
-    // `assignment` is the record of the virtual register `number()`; `maps` are the registers' maps of units, `ends` and `rests` the table. Refused with 15
-    // where the lent line is below 256 bytes.
+    // `assignment` is the record of the virtual register `number()`; `maps` are the registers' maps of units, `ends` and `rests` the table. Refused
+    // with 15 where the lent line is below 256 bytes.
     pub fn next(
         self,
         assignment: Assignment,
