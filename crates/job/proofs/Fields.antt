@@ -25,7 +25,7 @@ use Rattle.job.specs.declared.VirtRegFields.{VirtRegFields}
 use Rattle.job.specs.Model.{VirtReg, Job}
 use Rattle.job.specs.Parser.{Parsed, refused, parsed, Parser, andThen, _>>=_, done, ifBit, each, little}
 use Rattle.job.specs.Load.{countOf, known, badSpillBits, badHintBits, register, class, fixedFields, lastEnd, fixedRange, fixedTests, reservation, hint, range, pastOf, segment, hintsIn, segmentsIn, hintCount, segmentCount, hints, segments, spillBits, virtRegFields, virtRegAt, virtRegAfter, jobFields, twin, mixedSet, cutUse, wholeJob, notLoaded, loaded, asLoaded, loadWith, Bytes}
-use Rattle.job.proofs.Premises.{Plain, Finite, SmallEntry, SmallSegment, GoodSlots}
+use Rattle.job.proofs.Premises.{Plain, Finite, SmallEntry, SmallSegment, GoodSlots, GoodSegment, GoodProbe}
 use Rattle.job.proofs.Readers.{Left, Got, got-done, got-bit, got-cond, got-then, got-so, got-refuse, got-little, got-number, got-each}
 use Rattle.job.proofs.Lists.{Each, each-none, Pairs, each-more, pairs-more, foldl-more, lastTo, ended-more}
 use Rattle.job.proofs.Weights.{neither, plain-spill, finite-hint}
@@ -220,11 +220,6 @@ got-hints regs earlier b =
 
 -- ---- segments
 
-pub record GoodSegment (s : ValueSegment) : Type 0 where
-  pub nonempty : s .from < s .to
-  pub small : SmallSegment s
-  pub slots : GoodSlots s
-
 abbrev NextSegment : ℕ → ValueSegment → Type 0
 NextSegment past s = GoodSegment s × (past ≤ s .from)
 
@@ -388,9 +383,10 @@ pub record GoodJob (j : Job) : Type 0 where
   pub virtRegs : GoodVirtRegs (length (j .regs)) (length (j .classes)) (j .virtRegs)
   pub few-numbers : length (j .virtRegs) ≤ 512
   pub budget : j .budget < 2 ^ 32
+  pub probe : GoodProbe (j .probe)
 
-got-probe : {s : List ℕ} → Left s → Got (λ r. Unit {0}) (andThen (range 0 (done 0) s) (λ r. done (some r)))
-got-probe b = got-then (got-range 0 (done 0) (λ s c. got-done (omega arith) c) b) λ r s _ b. got-done tt b
+got-probe : {s : List ℕ} → Left s → Got GoodProbe (andThen (range 0 (done 0) s) (λ r. done (some r)))
+got-probe b = got-then (got-range 0 (done 0) (λ s c. got-done (omega arith) c) b) λ r s g b. got-done (g .0) b
 
 got-job : {s : List ℕ} → Left s → Got GoodJob (jobFields s)
 unfolding jobFields
@@ -407,9 +403,9 @@ got-job b =
     (got-counted (λ vs. GoodVirtRegs (length rs) (length cs) vs × (length vs ≤ 512)) (virtRegAfter (length rs) (length cs)) (bit 3 m) 2 512
     (virtRegs-none (length rs) (length cs), omega arith) (λ k s h b. got-so (got-virtRegs (length rs) (length cs) k h b) λ vs g. (g .0, omega arith)) b)
     λ vs s hv b.
-    got-then (got-bit (bit 4 m) none (do r ← range 0 (done 0); done (some r)) (λ t. tt) (got-probe b) b) λ p s _ b.
+    got-then (got-bit (bit 4 m) none (do r ← range 0 (done 0); done (some r)) (λ t. tt) (got-probe b) b) λ p s hp b.
     got-then (got-number (bit 5 m) 100_000 4 (omega arith) b) λ k s hk b.
-    got-done (record { regs = hr; classes = hc; fixed = hf .0; few-fixed = hf .1; virtRegs = hv .0; few-numbers = hv .1; budget = omega arith }) b
+    got-done (record { regs = hr; classes = hc; fixed = hf .0; few-fixed = hf .1; virtRegs = hv .0; few-numbers = hv .1; budget = omega arith; probe = hp }) b
 
 -- ---- what loading tested
 

@@ -202,6 +202,7 @@ module _ (j : Job) (t : Tested j) where
         small-sets = λ v h. good-virtReg v h .valueSet;
         small-sizes = λ v h. good-virtReg v h .size;
         small-budget = t .fields .budget;
+        probe = t .fields .probe;
         sound = good-sound (j .fixed) (t .fields .fixed);
         parted = good-parted (j .fixed) (t .fields .fixed .each) (t .fields .fixed .order);
         segments = λ v h. record {

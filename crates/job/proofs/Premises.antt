@@ -3,6 +3,7 @@
 use Prim.Native.Nat.{ℕ, _+_, _<_, _≤_, _^_}
 use mathlib.Core.Path.{_≡_}
 use mathlib.Core.List.{List}
+use mathlib.Core.Option.{Option, none, some}
 use mathlib.Core.Bool.{false, not, _||_}
 use lib.Dec.{T}
 use lib.Ieee.{Float, nan, inf, fin}
@@ -55,6 +56,17 @@ IsNumber j v = v < length (j .virtRegs)
 abbrev pub IsReg : Job → ℕ → Type 0
 IsReg j r = r < length (j .regs)
 
+-- what a segment was tested for by itself, 5 and 6
+pub record GoodSegment (s : ValueSegment) : Type 0 where
+  pub nonempty : s .from < s .to
+  pub small : SmallSegment s
+  pub slots : GoodSlots s
+
+-- and the probe range, if there is one
+abbrev pub GoodProbe : Option ValueSegment → Type 0
+GoodProbe none = Unit {0}
+GoodProbe (some s) = GoodSegment s
+
 pub record Premises (j : Job) : Type 0 where
   -- the limits
   pub few-regs : length (j .regs) ≤ 64
@@ -72,6 +84,7 @@ pub record Premises (j : Job) : Type 0 where
   pub small-sets : (v : ℕ) → IsNumber j v → virtReg j v .valueSet < 512
   pub small-sizes : (v : ℕ) → IsNumber j v → virtReg j v .size < 2 ^ 32
   pub small-budget : j .budget < 2 ^ 32
+  pub probe : GoodProbe (j .probe)
   -- 5, 7: fixed reservations are nonempty and, on each unit, sorted and disjoint
   pub sound : Sound (j .fixed)
   pub parted : Parted (j .fixed)

@@ -81,7 +81,7 @@ abbrev pub SmallRests : Table → Type 0
 SmallRests t = (e : Entry) → e ∈ t → reservationWord (e .reservation) < 2 ^ 32
 
 -- behind the last entry
-filled-at : (n d : ℕ) (xs behind : List ℕ) → length xs < n → getD (padded n d xs ++ behind) (length xs) 0 ≡ d
+pub filled-at : (n d : ℕ) (xs behind : List ℕ) → length xs < n → getD (padded n d xs ++ behind) (length xs) 0 ≡ d
 unfolding padded
 filled-at n d [] behind h = let e : n - 0 ≡ suc (n - 1) = omega arith in rw e
 filled-at n d (x ∷ xs) behind h =

@@ -10,7 +10,7 @@ pub mod reserve;
 mod search;
 mod table;
 pub mod unit_free;
-mod words;
+pub mod words;
 
 // A position of a check: the units of the register's map that are still to be walked, the current one the lowest; the segment and the
 // entry that are compared next; 0, or one more than the place of the next fixed use under that entry; and which form is asked for.
