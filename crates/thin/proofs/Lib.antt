@@ -1,0 +1,3 @@
+pub mod ApartLaws
+pub mod AnswerLaws
+pub mod Calling
