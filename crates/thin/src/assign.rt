@@ -3,42 +3,13 @@ ghost use mathlib.Core.Path.{_≡_};
 ghost use lib.Dec.{ltb};
 ghost use lib.ListN.{length};
 ghost use Rattle.matrix.specs.Moves.{words};
-ghost use Rattle.thin.specs.Apart.{maxSegments, fromsOf, tosOf, fromsIn, tosIn};
+ghost use Rattle.thin.specs.Apart.{maxSegments, fromsOf, tosOf};
 ghost use Rattle.thin.specs.Answers.{AssignAnswer, EvictAnswer};
-use crate::Fields;
+use crate::covered::assign_fields;
+use crate::covered::evict_fields;
 use crate::taking::take_apart;
-use lent::part32;
 use matrix::Moved;
-use matrix::assign;
 use reg_matrix::ValueSegment;
-
-// Placing v at segments that are taken apart.
-fn assign_fields(
-    f: Fields,
-    ends: &mut [u64],
-    rests: &mut [u64],
-    uses: &[u64],
-    v: u16,
-    map: u64,
-) -> Moved
-    ensures { λ r. ⌜ AssignAnswer (f .long) v map (now (uses .entry)) (fromsIn f) (tosIn f) (words (now (ends .entry)) (now (rests .entry))) (words (now (ends .exit)) (now (rests .exit))) r ⌝ }
-{
-    if f.long {
-        return Moved::Refused(15);
-    }
-    let n = f.count;
-    let froms = f.froms;
-    let tos = f.tos;
-    assign::assign(
-        ends,
-        rests,
-        uses,
-        v,
-        map,
-        part32(&froms, 0, n),
-        part32(&tos, 0, n),
-    )
-}
 
 // Places v in the register of this map of units: on each unit every segment replaces the fixed uses inside it by one entry, whose index is
 // the first fixed use of the unit not starting before the segment, or no index if it replaced none. The segments' values do not matter
@@ -55,25 +26,6 @@ pub fn assign(
     ensures { λ r. ⌜ AssignAnswer (ltb maxSegments (length (now (segments .entry)))) v map (now (uses .entry)) (fromsOf (now (segments .entry))) (tosOf (now (segments .entry))) (words (now (ends .entry)) (now (rests .entry))) (words (now (ends .exit)) (now (rests .exit))) r ⌝ }
 {
     assign_fields(take_apart(segments), ends, rests, uses, v, map)
-}
-
-// Evicting v from segments that are taken apart.
-fn evict_fields(
-    f: Fields,
-    ends: &mut [u64],
-    rests: &mut [u64],
-    uses: &[u64],
-    v: u16,
-    map: u64,
-) -> Moved
-    ensures { λ r. ⌜ EvictAnswer (f .long) v map (now (uses .entry)) (tosIn f) (words (now (ends .entry)) (now (rests .entry))) (words (now (ends .exit)) (now (rests .exit))) r ⌝ }
-{
-    if f.long {
-        return Moved::Refused(15);
-    }
-    let n = f.count;
-    let tos = f.tos;
-    assign::evict(ends, rests, uses, v, map, part32(&tos, 0, n))
 }
 
 // Evicts v from the register of this map of units: on each unit the entry of v that ends with a segment goes, and the fixed uses that it

@@ -3,51 +3,15 @@ ghost use mathlib.Core.Path.{_≡_};
 ghost use lib.Dec.{ltb};
 ghost use lib.ListN.{length, take};
 ghost use Rattle.matrix.specs.Walk.{Answered, lent};
-ghost use Rattle.thin.specs.Apart.{maxSegments, fromsOf, tosOf, valuesOf, fromsIn, tosIn, valuesIn};
+ghost use Rattle.thin.specs.Apart.{maxSegments, fromsOf, tosOf, valuesOf};
 ghost use Rattle.thin.specs.Answers.{checkAnswer};
-use crate::Fields;
+use crate::covered::check_fields;
+use crate::covered::next_in_fields;
 use crate::taking::take_apart;
-use lent::part16;
-use lent::part32;
 use matrix::Cursor;
 use matrix::Start;
 use matrix::Step;
-use matrix::check;
 use reg_matrix::ValueSegment;
-
-// The check of segments that are taken apart.
-fn check_fields(
-    f: Fields,
-    regs: &[u64],
-    count: usize,
-    reg: usize,
-    full: bool,
-    ends: &[u64],
-    rests: &[u64],
-    uses: &[u64],
-) -> Start
-    ensures { λ r. ⌜ r ≡ checkAnswer (f .long) (now (regs .entry)) count reg full (now (ends .entry)) (now (rests .entry)) (now (uses .entry)) (fromsIn f) (tosIn f) (valuesIn f) ⌝ }
-{
-    if f.long {
-        return Start::Refused(15);
-    }
-    let n = f.count;
-    let froms = f.froms;
-    let tos = f.tos;
-    let values = f.values;
-    check::check_interference(
-        regs,
-        count,
-        reg,
-        full,
-        ends,
-        rests,
-        uses,
-        part32(&froms, 0, n),
-        part32(&tos, 0, n),
-        part16(&values, 0, n),
-    )
-}
 
 // Starts a check of the register numbered `reg` among the first `count` maps of units, in the full or the short form, against these
 // segments. It tests 15, 8, 5, 6, 7 in this order, and gives the refusal's number or the position at the start. More than 512 segments
@@ -65,24 +29,6 @@ pub fn check_interference(
     ensures { λ r. ⌜ r ≡ checkAnswer (ltb maxSegments (length (now (segments .entry)))) (now (regs .entry)) count reg full (now (ends .entry)) (now (rests .entry)) (now (uses .entry)) (fromsOf (now (segments .entry))) (tosOf (now (segments .entry))) (valuesOf (now (segments .entry))) ⌝ }
 {
     check_fields(take_apart(segments), regs, count, reg, full, ends, rests, uses)
-}
-
-// The next report on segments that are taken apart.
-fn next_in_fields(f: Fields, c: Cursor, ends: &[u64], rests: &[u64], uses: &[u64]) -> Step
-    ensures { λ r. ⌜ Answered (lent (now (ends .entry)) (now (rests .entry)) (now (uses .entry)) (fromsIn f) (tosIn f) (valuesIn f)) c r ⌝ }
-{
-    let n = f.count;
-    let froms = f.froms;
-    let tos = f.tos;
-    let values = f.values;
-    c.next(
-        ends,
-        rests,
-        uses,
-        part32(&froms, 0, n),
-        part32(&tos, 0, n),
-        part16(&values, 0, n),
-    )
 }
 
 // The next report from this position on, with the position after it, or the check's end. It asks nothing of what is lent: of more than 512

@@ -3,6 +3,7 @@
 
 pub mod assign;
 pub mod check;
+mod covered;
 mod taking;
 
 // Segments taken apart: the fields of the first `count` ones, and whether there were more than have room.

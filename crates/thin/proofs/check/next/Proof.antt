@@ -55,10 +55,10 @@ use Rattle.thin.proofs.AnswerLaws.{next-told}
 use Rattle.thin.proofs.taking.take_apart.Symbol as apart-def
 use Rattle.thin.proofs.taking.take_apart.Symbol.{name as #take-apart}
 use Rattle.thin.proofs.taking.take_apart.Met as apart-thm
-use Rattle.thin.proofs.check.next_in_fields as covered
-use Rattle.thin.proofs.check.next_in_fields.Symbol as covered-def
-use Rattle.thin.proofs.check.next_in_fields.Symbol.{name as #covered}
-use Rattle.thin.proofs.check.next_in_fields.Met as covered-thm
+use Rattle.thin.proofs.covered.next_in_fields as covered
+use Rattle.thin.proofs.covered.next_in_fields.Symbol as covered-def
+use Rattle.thin.proofs.covered.next_in_fields.Symbol.{name as #covered}
+use Rattle.thin.proofs.covered.next_in_fields.Met as covered-thm
 use Rattle.thin.proofs.check.next.Key.{name as #next}
 use Rattle.thin.proofs.check.next as fun
 use Rattle.thin.proofs.check.next.Statement as stated
@@ -232,4 +232,4 @@ next-spec 𝓤 H 𝓜 𝓖 𝓡 =
     (tables 𝓤 H 𝓜 𝓡 code.env .C) (tables 𝓤 H 𝓜 𝓡 code.env .Λ) #next code.function (code.unfolded 𝓤 H 𝓜 𝓡)
     (fun-meets 𝓤 H (𝓖 .A) (givenOf 𝓤 H 𝓜 𝓖) (𝓜 .mem) (𝓡 .run) (tablesOf 𝓤 H 𝓜 (tables 𝓤 H 𝓜 𝓡 code.env))
     (cited 𝓤 H (TakeApart 𝓤 H (𝓖 .A) (𝓜 .mem) (𝓡 .run)) 𝓜 𝓡 code.env #take-apart apart-def.routine code.calls-thin·taking·take-apart (apart-thm.met 𝓤 H 𝓜 𝓖 𝓡))
-    (cited 𝓤 H (Covered 𝓤 H (𝓖 .A) (𝓜 .mem) (𝓡 .run)) 𝓜 𝓡 code.env #covered covered-def.routine code.calls-thin·check·next-in-fields (covered-thm.met 𝓤 H 𝓜 𝓖 𝓡)))
+    (cited 𝓤 H (Covered 𝓤 H (𝓖 .A) (𝓜 .mem) (𝓡 .run)) 𝓜 𝓡 code.env #covered covered-def.routine code.calls-thin·covered·next-in-fields (covered-thm.met 𝓤 H 𝓜 𝓖 𝓡)))

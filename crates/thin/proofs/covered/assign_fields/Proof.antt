@@ -1,7 +1,7 @@
 use borrow.Author.Needs.{needs}
 use Rattle.thin.proofs.AnswerLaws.{assigned-at, assign-fits, assign-long}
-use Rattle.thin.proofs.assign.assign_fields.Statement.{statement}
-use Rattle.thin.proofs.assign.assign_fields.Tie as tie
+use Rattle.thin.proofs.covered.assign_fields.Statement.{statement}
+use Rattle.thin.proofs.covered.assign_fields.Tie as tie
 
 returns : tie.Need-returns
 returns c = assign-long (c .if1 .taken)

@@ -1,7 +1,7 @@
 use borrow.Author.Needs.{needs}
 use Rattle.thin.specs.Answers.{checkAnswer}
-use Rattle.thin.proofs.check.check_fields.Statement.{statement}
-use Rattle.thin.proofs.check.check_fields.Tie as tie
+use Rattle.thin.proofs.covered.check_fields.Statement.{statement}
+use Rattle.thin.proofs.covered.check_fields.Tie as tie
 
 returns : tie.Need-returns
 unfolding checkAnswer

@@ -1,7 +1,7 @@
 use borrow.Author.Needs.{needs}
 use Rattle.thin.proofs.AnswerLaws.{answered-at}
-use Rattle.thin.proofs.check.next_in_fields.Statement.{statement}
-use Rattle.thin.proofs.check.next_in_fields.Tie as tie
+use Rattle.thin.proofs.covered.next_in_fields.Statement.{statement}
+use Rattle.thin.proofs.covered.next_in_fields.Tie as tie
 
 slice-aggregate-part32 : tie.Need-slice-aggregate-part32
 slice-aggregate-part32 c = search needs

@@ -1,7 +1,7 @@
 use borrow.Author.Needs.{needs}
 use Rattle.thin.proofs.AnswerLaws.{evicted-at, evict-fits, evict-long}
-use Rattle.thin.proofs.assign.evict_fields.Statement.{statement}
-use Rattle.thin.proofs.assign.evict_fields.Tie as tie
+use Rattle.thin.proofs.covered.evict_fields.Statement.{statement}
+use Rattle.thin.proofs.covered.evict_fields.Tie as tie
 
 returns : tie.Need-returns
 returns c = evict-long (c .if1 .taken)
