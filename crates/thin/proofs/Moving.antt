@@ -241,8 +241,19 @@ module _ (key : Name) (Heard : Fields → ℕ → ℕ → List ℕ → Words →
     fun-walks W 𝓣 known-apart known =
         walked 𝓤 H A fun.ended stayed saidOf (WpFn 𝓤 H (𝓣 .C) (𝓣 .Λ) function)
         (λ κs. (slice-vals, (slice-vals, (slice-vals, (slice-vals, (uint-vals w16, (uint-vals w64, tt)))))))
-        (λ κs. (shr-slice-tells (named 0) (κs .0) R, (mut-slice-tells (named 1) (κs .1 .0) u64, (mut-slice-tells (named 2) (κs .1 .1 .0) u64, (shr-slice-tells (named 3) (κs .1 .1 .1 .0) u64,
-        (uint-tells w16, (uint-tells w64, tt)))))))
+        (λ κs. (
+          shr-slice-tells (named 0) (κs .0) R,
+          (
+            mut-slice-tells (named 1) (κs .1 .0) u64,
+            (
+              mut-slice-tells (named 2) (κs .1 .1 .0) u64,
+              (
+                shr-slice-tells (named 3) (κs .1 .1 .1 .0) u64,
+                (uint-tells w16, (uint-tells w64, tt)),
+              ),
+            ),
+          ),
+        ))
         (λ κs qs bounds a g are. via 𝓤 _ (fst∗ 𝓤 _ (emp 𝓤))
         (walk W (κs .0) (κs .1) (qs .0) (qs .1) (a .0 .ptr .0) (a .0 .ptr .1) (a .0 .name) (a .0 .now) (a .1 .0) (a .1 .1 .0) (a .1 .1 .1 .0) (a .1 .1 .1 .1 .0) (a .1 .1 .1 .1 .1 .0) 𝓣 known-apart known
         (are .0 .0 .1) (are .1 .0 .0 .1) (are .1 .1 .0 .0 .1) (are .1 .1 .1 .0 .0 .1) (are .1 .1 .1 .1 .0 .1) (are .1 .1 .1 .1 .1 .0 .1)))
@@ -250,8 +261,20 @@ module _ (key : Name) (Heard : Fields → ℕ → ℕ → List ℕ → Words →
     pub meets : Given 𝓤 H A → (𝓣 : Tables 𝓤 H) → Triple 𝓤 (𝓣 .C #take-apart) (TakeApart 𝓤 H A mem run) → Triple 𝓤 (𝓣 .C key) Covered
         → Meets 𝓤 H A fun.signature (WpFn 𝓤 H (𝓣 .C) (𝓣 .Λ) function) (closing 𝓤 H A fun.ended saidOf)
     meets W 𝓣 known-apart known =
-        walk-meets 𝓤 H A fun.ended stayed W
-        (goes-dropped 𝓤 H A W 4 (shrSliceOf (0 ∷ []) tt (plain (λ _. R))) yes (λ κs x f. refl), (goes-gave-slice 𝓤 H A W 4 1 tt (plain (λ _. u64)), (goes-gave-slice 𝓤 H A W 4 2 tt (plain (λ _. u64)),
-        (goes-dropped 𝓤 H A W 4 (shrSliceOf (3 ∷ []) tt (plain (λ _. u64))) yes (λ κs x f. refl), (goes-dropped 𝓤 H A W 4 (plain (λ _. u16)) yes (λ κs x f. refl),
-        (goes-dropped 𝓤 H A W 4 (plain (λ _. u64)) yes (λ κs x f. refl), tt))))))
+        walk-meets 𝓤 H A fun.ended stayed W (
+          goes-dropped 𝓤 H A W 4 (shrSliceOf (0 ∷ []) tt (plain (λ _. R))) yes (λ κs x f. refl),
+          (
+            goes-gave-slice 𝓤 H A W 4 1 tt (plain (λ _. u64)),
+            (
+              goes-gave-slice 𝓤 H A W 4 2 tt (plain (λ _. u64)),
+              (
+                goes-dropped 𝓤 H A W 4 (shrSliceOf (3 ∷ []) tt (plain (λ _. u64))) yes (λ κs x f. refl),
+                (
+                  goes-dropped 𝓤 H A W 4 (plain (λ _. u16)) yes (λ κs x f. refl),
+                  (goes-dropped 𝓤 H A W 4 (plain (λ _. u64)) yes (λ κs x f. refl), tt),
+                ),
+              ),
+            ),
+          ),
+        )
         saidOf (WpFn 𝓤 H (𝓣 .C) (𝓣 .Λ) function) (WpFn-mono 𝓤 H (W .laws) 𝓣 function) (fun-walks W 𝓣 known-apart known)

@@ -28,18 +28,21 @@ pub fn check_interference(
 ) -> Start
     ensures { λ r. ⌜ r ≡ checkAnswer (ltb maxSegments (length (now (segments .entry)))) (now (regs .entry)) count reg full (now (ends .entry)) (now (rests .entry)) (now (uses .entry)) (fromsOf (now (segments .entry))) (tosOf (now (segments .entry))) (valuesOf (now (segments .entry))) ⌝ }
 {
-    check_fields(take_apart(segments), regs, count, reg, full, ends, rests, uses)
+    check_fields(
+        take_apart(segments),
+        regs,
+        count,
+        reg,
+        full,
+        ends,
+        rests,
+        uses,
+    )
 }
 
 // The next report from this position on, with the position after it, or the check's end. It asks nothing of what is lent: of more than 512
 // segments, against which no check starts, it sees the first 512.
-pub fn next(
-    segments: &[ValueSegment],
-    c: Cursor,
-    ends: &[u64],
-    rests: &[u64],
-    uses: &[u64],
-) -> Step
+pub fn next(segments: &[ValueSegment], c: Cursor, ends: &[u64], rests: &[u64], uses: &[u64]) -> Step
     ensures { λ r. ⌜ Answered (lent (now (ends .entry)) (now (rests .entry)) (now (uses .entry)) (fromsOf (take maxSegments (now (segments .entry)))) (tosOf (take maxSegments (now (segments .entry)))) (valuesOf (take maxSegments (now (segments .entry))))) c r ⌝ }
 {
     next_in_fields(take_apart(segments), c, ends, rests, uses)

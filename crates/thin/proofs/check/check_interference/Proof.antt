@@ -214,8 +214,22 @@ module _ {M : Type 1} (𝓤 : URA M) (H : Heap 𝓤) (A : Atoms 𝓤) (W : Given
   fun-walks 𝓣 known-apart known =
       walked 𝓤 H A fun.ended stayed (fun.clauses 𝓤 H A mem run) (WpFn 𝓤 H (𝓣 .C) (𝓣 .Λ) function)
       (λ κs. (slice-vals, (slice-vals, (uint-vals w64, (uint-vals w64, (bool-vals, (slice-vals, (slice-vals, (slice-vals, tt)))))))))
-      (λ κs. (shr-slice-tells (named 0) (κs .0) R, (shr-slice-tells (named 1) (κs .1 .0) u64, (uint-tells w64, (uint-tells w64, (bool-tells,
-      (shr-slice-tells (named 2) (κs .1 .1 .0) u64, (shr-slice-tells (named 3) (κs .1 .1 .1 .0) u64, (shr-slice-tells (named 4) (κs .1 .1 .1 .1 .0) u64, tt)))))))))
+      (λ κs. (
+        shr-slice-tells (named 0) (κs .0) R,
+        (
+          shr-slice-tells (named 1) (κs .1 .0) u64,
+          (
+            uint-tells w64,
+            (
+              uint-tells w64,
+              (
+                bool-tells,
+                (shr-slice-tells (named 2) (κs .1 .1 .0) u64, (shr-slice-tells (named 3) (κs .1 .1 .1 .0) u64, (shr-slice-tells (named 4) (κs .1 .1 .1 .1 .0) u64, tt))),
+              ),
+            ),
+          ),
+        ),
+      ))
       (λ κs qs bounds a g are. via 𝓤 _ (fst∗ 𝓤 _ (emp 𝓤))
       (walk 𝓤 H A W mem run (κs .0) (κs .1) (qs .0) (qs .1) (a .0 .ptr .0) (a .0 .ptr .1) (a .0 .name) (a .0 .now)
       (a .1 .0) (a .1 .1 .0) (a .1 .1 .1 .0) (a .1 .1 .1 .1 .0) (a .1 .1 .1 .1 .1 .0) (a .1 .1 .1 .1 .1 .1 .0) (a .1 .1 .1 .1 .1 .1 .1 .0) 𝓣 known-apart known
@@ -226,11 +240,28 @@ fun-meets : {M : Type 1} (𝓤 : URA M) (H : Heap 𝓤) (A : Atoms 𝓤) (W : Gi
     → Meets 𝓤 H A fun.signature (WpFn 𝓤 H (𝓣 .C) (𝓣 .Λ) code.function) (fun.spec 𝓤 H A mem run)
 fun-meets 𝓤 H A W mem run 𝓣 known-apart known =
     subst (λ (z : Fn). Meets 𝓤 H A fun.signature (WpFn 𝓤 H (𝓣 .C) (𝓣 .Λ) z) (fun.spec 𝓤 H A mem run)) same
-    (walk-meets 𝓤 H A fun.ended stayed W
-    (goes-dropped 𝓤 H A W 5 (shrSliceOf (0 ∷ []) tt (plain (λ _. R))) yes (λ κs x f. refl), (goes-dropped 𝓤 H A W 5 (shrSliceOf (1 ∷ []) tt (plain (λ _. u64))) yes (λ κs x f. refl),
-    (goes-dropped 𝓤 H A W 5 (plain (λ _. usize)) yes (λ κs x f. refl), (goes-dropped 𝓤 H A W 5 (plain (λ _. usize)) yes (λ κs x f. refl), (goes-dropped 𝓤 H A W 5 (plain (λ _. bool)) yes (λ κs x f. refl),
-    (goes-dropped 𝓤 H A W 5 (shrSliceOf (2 ∷ []) tt (plain (λ _. u64))) yes (λ κs x f. refl), (goes-dropped 𝓤 H A W 5 (shrSliceOf (3 ∷ []) tt (plain (λ _. u64))) yes (λ κs x f. refl),
-    (goes-dropped 𝓤 H A W 5 (shrSliceOf (4 ∷ []) tt (plain (λ _. u64))) yes (λ κs x f. refl), tt))))))))
+    (walk-meets 𝓤 H A fun.ended stayed W (
+      goes-dropped 𝓤 H A W 5 (shrSliceOf (0 ∷ []) tt (plain (λ _. R))) yes (λ κs x f. refl),
+      (
+        goes-dropped 𝓤 H A W 5 (shrSliceOf (1 ∷ []) tt (plain (λ _. u64))) yes (λ κs x f. refl),
+        (
+          goes-dropped 𝓤 H A W 5 (plain (λ _. usize)) yes (λ κs x f. refl),
+          (
+            goes-dropped 𝓤 H A W 5 (plain (λ _. usize)) yes (λ κs x f. refl),
+            (
+              goes-dropped 𝓤 H A W 5 (plain (λ _. bool)) yes (λ κs x f. refl),
+              (
+                goes-dropped 𝓤 H A W 5 (shrSliceOf (2 ∷ []) tt (plain (λ _. u64))) yes (λ κs x f. refl),
+                (
+                  goes-dropped 𝓤 H A W 5 (shrSliceOf (3 ∷ []) tt (plain (λ _. u64))) yes (λ κs x f. refl),
+                  (goes-dropped 𝓤 H A W 5 (shrSliceOf (4 ∷ []) tt (plain (λ _. u64))) yes (λ κs x f. refl), tt),
+                ),
+              ),
+            ),
+          ),
+        ),
+      ),
+    )
     (fun.clauses 𝓤 H A mem run) (WpFn 𝓤 H (𝓣 .C) (𝓣 .Λ) function) (WpFn-mono 𝓤 H (W .laws) 𝓣 function) (fun-walks 𝓤 H A W mem run 𝓣 known-apart known))
 
 pub check-interference-spec : {M : Type 1} → stated.statement M

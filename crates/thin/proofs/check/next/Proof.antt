@@ -219,10 +219,19 @@ fun-meets : {M : Type 1} (𝓤 : URA M) (H : Heap 𝓤) (A : Atoms 𝓤) (W : Gi
     → Meets 𝓤 H A fun.signature (WpFn 𝓤 H (𝓣 .C) (𝓣 .Λ) code.function) (fun.spec 𝓤 H A mem run)
 fun-meets 𝓤 H A W mem run 𝓣 known-apart known =
     subst (λ (z : Fn). Meets 𝓤 H A fun.signature (WpFn 𝓤 H (𝓣 .C) (𝓣 .Λ) z) (fun.spec 𝓤 H A mem run)) same
-    (walk-meets 𝓤 H A fun.ended stayed W
-    (goes-dropped 𝓤 H A W 4 (shrSliceOf (0 ∷ []) tt (plain (λ _. R))) yes (λ κs x f. refl), (goes-dropped 𝓤 H A W 4 (plain (λ _. D.the-row)) yes (λ κs x f. refl),
-    (goes-dropped 𝓤 H A W 4 (shrSliceOf (1 ∷ []) tt (plain (λ _. u64))) yes (λ κs x f. refl), (goes-dropped 𝓤 H A W 4 (shrSliceOf (2 ∷ []) tt (plain (λ _. u64))) yes (λ κs x f. refl),
-    (goes-dropped 𝓤 H A W 4 (shrSliceOf (3 ∷ []) tt (plain (λ _. u64))) yes (λ κs x f. refl), tt)))))
+    (walk-meets 𝓤 H A fun.ended stayed W (
+      goes-dropped 𝓤 H A W 4 (shrSliceOf (0 ∷ []) tt (plain (λ _. R))) yes (λ κs x f. refl),
+      (
+        goes-dropped 𝓤 H A W 4 (plain (λ _. D.the-row)) yes (λ κs x f. refl),
+        (
+          goes-dropped 𝓤 H A W 4 (shrSliceOf (1 ∷ []) tt (plain (λ _. u64))) yes (λ κs x f. refl),
+          (
+            goes-dropped 𝓤 H A W 4 (shrSliceOf (2 ∷ []) tt (plain (λ _. u64))) yes (λ κs x f. refl),
+            (goes-dropped 𝓤 H A W 4 (shrSliceOf (3 ∷ []) tt (plain (λ _. u64))) yes (λ κs x f. refl), tt),
+          ),
+        ),
+      ),
+    )
     (fun.clauses 𝓤 H A mem run) (WpFn 𝓤 H (𝓣 .C) (𝓣 .Λ) function) (WpFn-mono 𝓤 H (W .laws) 𝓣 function) (fun-walks 𝓤 H A W mem run 𝓣 known-apart known))
 
 pub next-spec : {M : Type 1} → stated.statement M
