@@ -1,9 +1,10 @@
 -- What the calls answer hangs on the lists of fields alone, and a refusal 15 not even on them. Assumes nothing.
 use Prim.Native.Nat.{ℕ}
 use mathlib.Core.Path.{_≡_, refl, sym, _∙_, ap, subst}
-use mathlib.Core.List.{List}
+use mathlib.Core.List.{List, [], _∷_}
 use mathlib.Core.Bool.{Bool, true, false}
-use Rattle.matrix.specs.Walk.{Answered, lent}
+use Rattle.reg_matrix.specs.Questions.{checkRefusal}
+use Rattle.matrix.specs.Walk.{Answered, lent, startOf, entered}
 use Rattle.matrix.specs.Moves.{Words}
 use Rattle.matrix.specs.Placing.{Assigned, Evicted}
 use Rattle.matrix.specs.declared.Cursor.{Cursor}
@@ -11,14 +12,15 @@ use Rattle.matrix.specs.declared.Step.{Step}
 use Rattle.matrix.specs.declared.Moved.{Moved}
 use Rattle.matrix.specs.declared.Moved.the-variants.{Refused}
 use lib.Dec.{ltb}
-use lib.ListN.{length, take}
+use lib.ListN.{length, take, getD, length-map}
 use lib.Seq.{take-all}
 use borrow.Author.Tests.{ltb-false}
 use Rattle.reg_matrix.specs.declared.ValueSegment.{ValueSegment}
 use Rattle.thin.specs.declared.Fields.{Fields}
 use Rattle.thin.specs.Apart.{maxSegments, noFields, takenApart, fromsIn, tosIn, valuesIn, fromsOf, tosOf, valuesOf}
 use Rattle.matrix.specs.declared.Start.{Start}
-use Rattle.thin.specs.Answers.{checkAnswer, AssignAnswer, EvictAnswer}
+use Rattle.thin.specs.Answers.{unlessLong, checkAnswer, AssignAnswer, EvictAnswer}
+use Rattle.matrix.proofs.Starts.{segments-back}
 use Rattle.thin.proofs.ApartLaws.{froms-apart, tos-apart, values-apart, long-apart}
 
 -- ---- equal lists, equal answers
@@ -118,3 +120,15 @@ module _ (ys : List ValueSegment) (f : Fields) (e : f ≡ takenApart noFields ys
           let z : EvictAnswer true v m uses (tosIn f) w w′ r = subst (λ (b : Bool). EvictAnswer b v m uses (tosIn f) w w′ r) q a in
           subst (λ (b : Bool). EvictAnswer b v m uses (tosOf ys) w w′ r) (sym q) (record { answer = z .answer; after = z .after })
       go false q a = subst (λ (ts : List ℕ). EvictAnswer (ltb maxSegments (length ys)) v m uses ts w w′ r) (tos-told ∙ ap tosOf (all-seen q)) a
+
+-- ---- the three lists of fields are the segments again, so a check of them is one of the structs
+
+pub check-of-structs : (regs : List ℕ) (count reg : ℕ) (full : Bool) (ends rests uses : List ℕ) (ys : List ValueSegment)
+    → checkAnswer (ltb maxSegments (length ys)) regs count reg full ends rests uses (fromsOf ys) (tosOf ys) (valuesOf ys)
+    ≡ startOf
+    (unlessLong (ltb maxSegments (length ys))
+    (checkRefusal (length regs ∷ length uses ∷ length ends ∷ length rests ∷ length ys ∷ length ys ∷ length ys ∷ []) (take count regs) reg ys))
+    (entered ends (fromsOf ys) (getD regs reg 0) full)
+unfolding checkAnswer
+check-of-structs regs count reg full ends rests uses ys =
+    rw (segments-back ys, length-map ys (λ (s : ValueSegment). s .from), length-map ys (λ (s : ValueSegment). s .to), length-map ys (λ (s : ValueSegment). s .value))
