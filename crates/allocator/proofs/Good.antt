@@ -15,7 +15,7 @@ use Rattle.job.proofs.Premises.{Premises, IsNumber, IsReg}
 use Rattle.allocator.specs.State.{State, CandidateReg, Stage, freshState, heldBy, isLeftOver, checkOf, give, lose, loseHeld, evictNumber, requeue, leave}
 use Rattle.allocator.specs.Order.{candidate}
 use Rattle.allocator.specs.Queue.{Queued}
-use Rattle.allocator.specs.Dequeue.{Decision, takes, decide, Step, goesOn, tooMany, evictAll, dequeue}
+use Rattle.allocator.specs.Dequeue.{Decision, takes, decide, Step, goesOn, tooMany, evictAll, dequeue, stateOf}
 use Rattle.allocator.specs.Run.{Ran, ran, Done, nextOf, runFrom, run}
 use Rattle.allocator.specs.Layout.{stageLimits}
 use Rattle.allocator.specs.Calls.{load, Call, evicting, running, refusalOf, carriedOut, unlessRefused, after, afterAll}
@@ -25,7 +25,7 @@ use Rattle.allocator.proofs.Holders.{none-some}
 use Rattle.allocator.proofs.Agrees.{regHeld, queuedAt, Candidate, Waiting, Agrees, last-named, fresh-agrees, give-agrees, lose-agrees, requeue-agrees, leave-agrees, evict-agrees}
 use Rattle.allocator.proofs.Decisions.{Takes, Fits, decide-fits}
 use Rattle.allocator.proofs.Accepted.{Placeable, evicting-accepted, running-accepted}
-use Rattle.allocator.proofs.Runs.{fold-append, stateOf, without, evictAll-agrees, evicted-clear, evicted-waiting, carried-agrees, next-queued, run-agrees, accepted-agrees, call-agrees, after-agrees}
+use Rattle.allocator.proofs.Runs.{fold-append, without, evictAll-agrees, evicted-clear, evicted-waiting, carried-agrees, next-queued, run-agrees, accepted-agrees, call-agrees, after-agrees}
 use Rattle.allocator.proofs.Rebuilt.{named-known, limits-suffice}
 use Rattle.allocator.proofs.Loading.{stage-premises}
 

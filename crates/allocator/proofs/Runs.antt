@@ -20,7 +20,7 @@ use Rattle.job.proofs.Premises.{Premises}
 use Rattle.allocator.specs.State.{State, CandidateReg, Stage, Split, freshState, heldBy, isLeftOver, checkOf, give, lose, loseHeld, evictNumber}
 use Rattle.allocator.specs.Order.{candidate}
 use Rattle.allocator.specs.Queue.{Queued, encode, orAhead, nextFrom}
-use Rattle.allocator.specs.Dequeue.{Decision, leaves, takes, splits, fails, decide, Step, goesOn, tooMany, evictAll, carryOut, dequeue}
+use Rattle.allocator.specs.Dequeue.{Decision, leaves, takes, splits, fails, decide, Step, goesOn, tooMany, evictAll, carryOut, dequeue, stateOf}
 use Rattle.allocator.specs.Run.{Ran, ran, Done, nextOf, runFrom, run}
 use Rattle.allocator.specs.Calls.{Call, placing, evicting, running, refusalOf, carriedOut, unlessRefused, after, afterAll}
 use Rattle.allocator.specs.Holding.{Event, gets, loses, Holding, nothingHeld, but, changed, byDecision, byRun, byAccepted, byCall, byCalls, holds}
@@ -34,11 +34,6 @@ pub fold-append : {A B : Type 0} (f : B → A → B) (b : B) (xs ys : List A) �
 unfolding foldl
 fold-append f b [] ys = refl
 fold-append f b (x ∷ xs) ys = fold-append f (f b x) xs ys
-
--- the state that a step leaves
-abbrev pub stateOf : Step → State
-stateOf (goesOn s) = s
-stateOf (tooMany s) = s
 
 -- ---- evictions
 

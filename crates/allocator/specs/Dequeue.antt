@@ -74,6 +74,11 @@ pub data Step : Type 0 where
   goesOn : State → Step
   tooMany : State → Step
 
+-- 01, "A dequeue": the state that a step leaves
+abbrev pub stateOf : Step → State
+stateOf (goesOn s) = s
+stateOf (tooMany s) = s
+
 -- 01, "A dequeue": its evictions, one after another
 unfoldable pub evictAll : Job → List ℕ → State → State
 evictAll j vs s = foldl (evictNumber j) s vs

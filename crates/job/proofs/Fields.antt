@@ -444,3 +444,7 @@ loaded-out {P} (parsed k s) j g e = subst P (same e) (g .parts .0)
 pub loads-tested : (limits lent bytes : List ℕ) (j : Job) → Bytes bytes → loadWith limits lent bytes ≡ loaded j → Tested j
 unfolding loadWith
 loads-tested limits lent bytes j h e = loaded-out (wholeJob limits lent bytes bytes) j (got-whole limits lent bytes (record { bytes = h })) e
+
+-- what reading the fields tested, before the tests of the whole
+pub fields-good : (bytes : List ℕ) {j : Job} {t : List ℕ} → Bytes bytes → jobFields bytes ≡ parsed j t → GoodJob j
+fields-good bytes h e = subst (Got GoodJob) e (got-job (record { bytes = h })) .parts .0

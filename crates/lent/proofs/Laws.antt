@@ -1,9 +1,12 @@
--- What stands at a place inside does not hang on the default; when a part is empty, and when it is all that was asked for. Assumes nothing.
-use Prim.Native.Nat.{ℕ, zero, suc, _-_, _≤_, _<_}
+-- What stands at a place inside does not hang on the default; when a part is empty, and when it is all that was
+-- asked for; a loop that stores one number. Assumes nothing.
+use Prim.Native.Nat.{ℕ, zero, suc, _+_, _-_, _≤_, _<_}
 use native.Mathlib.Omega.{arith}
+use native.Mathlib.Numerals.{add-one}
 use mathlib.Core.Path.{_≡_, refl}
 use mathlib.Core.List.{List, [], _∷_}
-use lib.ListN.{length, take, drop, getD}
+use lib.ListN.{length, take, drop, getD, set, replicate}
+use lib.Seq.{sets}
 use borrow.Author.Tests.{lt-leb, le-leb}
 use mathlib.Core.Bool.{false, _&&_}
 use Rattle.lent.specs.Parts.{part}
@@ -25,3 +28,15 @@ module _ {A : Type 0} (a b : ℕ) (xs : List A) where
   pub past : a ≤ b → length xs < b → part a b xs ≡ []
   unfolding part
   past h l = simp (le-leb _ _ h, lt-leb _ _ l)
+
+-- a loop that stores d: the rest from here is the whole
+module _ {A : Type 0} (d : A) where
+  pub pad-more : (b b′ : List A) (i to : ℕ) → i < to → b′ ≡ set b i d → sets b i (replicate (to - i) d) ≡ sets b′ (i + 1) (replicate (to - (i + 1)) d)
+  pad-more b b′ i to h e =
+      let k : to - i ≡ suc (to - (i + 1)) = omega arith in
+      rw (k, e, add-one i)
+
+  pub pad-end : (b : List A) (i to : ℕ) → to ≤ i → sets b i (replicate (to - i) d) ≡ b
+  pad-end b i to h =
+      let k : to - i ≡ 0 = omega arith in
+      rw k

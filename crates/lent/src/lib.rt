@@ -1,7 +1,9 @@
 // Reads, stores and parts of lent slices that ask nothing of what is lent: past the end a read gives 0, a store does nothing, and a part that does not
 // lie inside is empty.
 ghost use mathlib.Core.Path.{_≡_};
-ghost use lib.ListN.{getD, set};
+ghost use Prim.Native.Nat.{_-_};
+ghost use lib.ListN.{getD, set, replicate};
+ghost use lib.Seq.{sets};
 ghost use lib.Ieee.{binary32, ofBits};
 ghost use Rattle.lent.specs.Parts.{part};
 
@@ -49,6 +51,24 @@ pub fn put(s: &mut [u64], i: usize, v: u64)
     }
 }
 
+// The same in a slice of 32-bit numbers.
+pub fn put32(s: &mut [u32], i: usize, v: u32)
+    ensures { λ r. ⌜ now (s .exit) ≡ set (now (s .entry)) i v ⌝ }
+{
+    if i < s.len() {
+        s[i] = v;
+    }
+}
+
+// The same in a slice of 16-bit numbers.
+pub fn put16(s: &mut [u16], i: usize, v: u16)
+    ensures { λ r. ⌜ now (s .exit) ≡ set (now (s .entry)) i v ⌝ }
+{
+    if i < s.len() {
+        s[i] = v;
+    }
+}
+
 // The same in a slice of bytes.
 pub fn put8(s: &mut [u8], i: usize, v: u8)
     ensures { λ r. ⌜ now (s .exit) ≡ set (now (s .entry)) i v ⌝ }
@@ -64,6 +84,61 @@ pub fn put_float(s: &mut [f32], i: usize, v: f32)
 {
     if i < s.len() {
         s[i] = v;
+    }
+}
+
+// Zeros from place `from` to the place before `to`.
+pub fn pad(s: &mut [u64], from: usize, to: usize)
+    ensures { λ r. ⌜ now (s .exit) ≡ sets (now (s .entry)) from (replicate (to - from) 0) ⌝ }
+{
+    let mut i = from;
+    while i < to {
+        put(s, i, 0);
+        i += 1;
+    }
+}
+
+// The same in a slice of 32-bit numbers.
+pub fn pad32(s: &mut [u32], from: usize, to: usize)
+    ensures { λ r. ⌜ now (s .exit) ≡ sets (now (s .entry)) from (replicate (to - from) 0) ⌝ }
+{
+    let mut i = from;
+    while i < to {
+        put32(s, i, 0);
+        i += 1;
+    }
+}
+
+// The same in a slice of 16-bit numbers.
+pub fn pad16(s: &mut [u16], from: usize, to: usize)
+    ensures { λ r. ⌜ now (s .exit) ≡ sets (now (s .entry)) from (replicate (to - from) 0) ⌝ }
+{
+    let mut i = from;
+    while i < to {
+        put16(s, i, 0);
+        i += 1;
+    }
+}
+
+// The same in a slice of bytes.
+pub fn pad8(s: &mut [u8], from: usize, to: usize)
+    ensures { λ r. ⌜ now (s .exit) ≡ sets (now (s .entry)) from (replicate (to - from) 0) ⌝ }
+{
+    let mut i = from;
+    while i < to {
+        put8(s, i, 0);
+        i += 1;
+    }
+}
+
+// The same in a slice of weights.
+pub fn pad_float(s: &mut [f32], from: usize, to: usize)
+    ensures { λ r. ⌜ now (s .exit) ≡ sets (now (s .entry)) from (replicate (to - from) (ofBits binary32 0)) ⌝ }
+{
+    let mut i = from;
+    while i < to {
+        put_float(s, i, 0.0);
+        i += 1;
     }
 }
 

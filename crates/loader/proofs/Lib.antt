@@ -1,8 +1,5 @@
-pub mod Answers
-pub mod Reading
-pub mod Stores
-pub mod WeightBits
-pub mod Tables
-pub mod Places
 pub mod Layouts
-pub mod WholeTests
+pub mod Testing
+pub mod Reserves
+pub mod Laying
+pub mod Loads

@@ -3,11 +3,11 @@ ghost use mathlib.Core.Path.{_≡_};
 ghost use Prim.Native.Nat.{_+_};
 ghost use lib.ListN.{getD};
 ghost use Rattle.job.specs.Model.{zeroWeight};
-use crate::lent::at_float;
-use crate::lent::at8;
-use crate::lent::at16;
-use crate::lent::at32;
-use crate::lent::at64;
+use lent::at;
+use lent::at_float;
+use lent::at8;
+use lent::at16;
+use lent::at32;
 
 // The places from `from` to the one before `to`.
 pub struct Places {
@@ -32,7 +32,7 @@ fn between(starts: &[u16], n: u16) -> Places
 pub fn reg_units(regs: &[u64], r: u8) -> u64
     ensures { λ m. ⌜ m ≡ getD (now (regs .entry)) r 0 ⌝ }
 {
-    at64(regs, r as usize)
+    at(regs, r as usize)
 }
 
 // Where the registers of the class c stand.

@@ -1,11 +1,7 @@
-// Loading in code: the fields of a job, its tables and the tests of the whole, and what upper crates read of a loaded job. Its definitions are
+// Loading in code: a job's bytes into lent numbers with its table, and what upper crates read of a loaded job. Its definitions are
 // those of the crate job, whose table of refusals each must-fail edit of a definition checks without this code.
 
 pub mod access;
-mod fixed;
-mod lent;
-mod read;
-mod regs;
-mod tests;
-mod virt;
-mod whole;
+mod buffers;
+pub mod load;
+mod reserve;

@@ -18,3 +18,4 @@ pub mod Moving
 pub mod Asked
 pub mod Reserved
 pub mod Answered
+pub mod Loaded

@@ -464,7 +464,7 @@ same-numbers f g n h =
     ext-getD 0 (map f (count 0 n)) (map g (count 0 n)) (length-map (count 0 n) f ∙ sym (length-map (count 0 n) g))
     (λ i b. let l : i < n = omega (arith, length-map (count 0 n) f, count-length 0 n) in key-at f n i l ∙ h i l ∙ sym (key-at g n i l))
 
-tournament-length : (j : Job) (s : State) → length (queueWords j s) ≡ 1024
+pub tournament-length : (j : Job) (s : State) → length (queueWords j s) ≡ 1024
 unfolding queueWords
 tournament-length j s = nine (map (λ v. keyWord j v (getD (s .queued) v none)) (count 0 512)) (numbers-length (λ v. keyWord j v (getD (s .queued) v none)))
 
@@ -552,14 +552,14 @@ module _ (j : Job) (few : length (j .virtRegs) ≤ 512) (starts sizes : List ℕ
       sym (getD-take 513 starts v 0 (omega arith)) ∙ ap (λ l. getD l v 0) here
       ∙ padded-at 513 0 0 (startsFrom (λ (x : VirtReg). length (x .hints)) 0 (j .virtRegs)) v (omega (arith, starts-length (λ (x : VirtReg). length (x .hints)) 0 (j .virtRegs)))
 
-  size-at : (v : ℕ) → v < length (j .virtRegs) → getD sizes v 0 ≡ virtReg j v .size
+  pub size-at : (v : ℕ) → v < length (j .virtRegs) → getD sizes v 0 ≡ virtReg j v .size
   unfolding jobBuffers virtReg
   size-at v h =
       sym (getD-take 512 sizes v 0 (omega arith)) ∙ ap (λ l. getD l v 0) there
       ∙ padded-at 512 0 0 (map (λ (x : VirtReg). x .size) (j .virtRegs)) v (omega (arith, length-map (j .virtRegs) (λ (x : VirtReg). x .size)))
       ∙ List·getD-map (λ (x : VirtReg). x .size) (j .virtRegs) v noVirtReg
 
-  has-hints : (v : ℕ) → v < length (j .virtRegs) → ltb (getD starts v 0) (getD starts (v + 1) 0) ≡ not (isNil (virtReg j v .hints))
+  pub has-hints : (v : ℕ) → v < length (j .virtRegs) → ltb (getD starts v 0) (getD starts (v + 1) 0) ≡ not (isNil (virtReg j v .hints))
   unfolding virtReg
   has-hints v h =
       let s = startsFrom (λ (x : VirtReg). length (x .hints)) 0 (j .virtRegs) in

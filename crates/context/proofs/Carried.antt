@@ -1,0 +1,221 @@
+-- A decision carried out on a state that calls reach: each fate leaves what is lent with the state that the rules give. Assumes nothing.
+use Prim.Native.Nat.{ℕ, _+_, _<_, _≤_}
+use native.Mathlib.Omega.{arith}
+use mathlib.Core.Path.{_≡_, refl, sym, ap, _∙_, subst}
+use mathlib.Core.List.{List, [], _∷_, _++_}
+use mathlib.Core.Option.{Option, none, some}
+use mathlib.Core.Bool.{Bool, true, false, not, _&&_, _||_}
+use lib.Dec.{T, ltb}
+use lib.ListN.{length, getD, set}
+use Rattle.reg_matrix.specs.Lists.{isSome, foldl}
+use Rattle.job.specs.Model.{Job}
+use Rattle.allocator.specs.declared.Assignment.{Assignment}
+use Rattle.allocator.specs.declared.Assignment.the-variants.{Assigned as Holds, Dead}
+use Rattle.allocator.specs.declared.CandidateReg.{CandidateReg}
+use Rattle.allocator.specs.declared.Stage.{Stage}
+use Rattle.allocator.specs.declared.Stage.the-variants.{Split}
+use Rattle.allocator.specs.State.{State, heldBy, isLeftOver, flag, isUnassigned, checkOf, assignment, recordOf, records, give, lose, requeue, leave}
+use Rattle.allocator.specs.Layout.{StateBuffers, queueWords, lastWords}
+use Rattle.allocator.specs.Calls.{named}
+use Rattle.job.proofs.Premises.{IsNumber}
+use Rattle.reg_matrix.proofs.Places.{from-zero}
+use Rattle.allocator.specs.Dequeue.{Decision, leaves, takes, splits, fails, decide, stateOf, evictAll, carryOut, dequeue}
+use Rattle.allocator.specs.Reached.{Reached}
+use Rattle.allocator.proofs.Runs.{evictAll-keeps}
+use Rattle.allocator.proofs.Good.{Good, Idle, Taking, good-reached, queued-idle, takes-good, reached-evict-all}
+use Rattle.allocator.proofs.Records.{give-records, leave-records, requeue-records, leave-last, requeue-last}
+use Rattle.stage.specs.EvictWalk.{noRecord}
+use Rattle.stage.specs.QueueWalk.{keyOf, setWord}
+use Rattle.context.specs.Standing.{Moves, Stands}
+use Rattle.context.specs.Deciding.{Fate, Leaves, Takes, Evicts, Splits, Fails, Decided, members, decisionBy, decisionOf, flagIn, givenRecord}
+use Rattle.context.specs.Carrying.{EvictReads, TakeReads, EvictedAll, Taken, CarriedOut}
+use Rattle.context.proofs.CarryLaws.{unqueued, queued-at}
+
+-- a decision by the fate
+by-fate : (d : Decided) (x : Fate) (y : Decision) → d .fate ≡ x → decisionBy x d ≡ y → (j : Job) (s : State) (v : ℕ) (q : Stage) → decisionOf d ≡ decide j s v q → stateOf (dequeue j s v q) ≡ stateOf (carryOut j s v y)
+unfolding dequeue
+by-fate d x y e k j s v q is = ap (λ (z : Decision). stateOf (carryOut j s v z)) (sym is ∙ ap (λ (z : Fate). decisionBy z d) e ∙ k)
+
+idle-unassigned : (j : Job) (s : State) (v : ℕ) → Idle j s v → T (isUnassigned s v)
+idle-unassigned j s v i = go (heldBy s v) (isLeftOver s v) (i .holds-nothing) (i .stays)
+  where
+    go : (o : Option CandidateReg) (b : Bool) → o ≡ none → T (not b) → T (not (isSome o) && not b)
+    go o b p t = rw p t
+
+-- the flag of a record
+flag-read : (j : Job) (s : State) (g : Good j s) (v : ℕ) → IsNumber j v → T (not (isLeftOver s v)) → flagIn (getD (records s) v noRecord) ≡ flag s v
+unfolding records recordOf
+flag-read j s g v known t = ap flagIn (from-zero (recordOf s) noRecord 512 v (omega (arith, known, g .premises .few-numbers))) ∙ go (isLeftOver s v) t (heldBy s v)
+  where
+    go : (b : Bool) → T (not b) → (o : Option CandidateReg) → flagIn (assignment b (flag s v) o) ≡ flag s v
+    go true t o = absurd t
+    go false t none = refl
+    go false t (some c) = refl
+
+-- an eviction leaves the last registers
+same-last : (j : Job) (v r : ℕ) (s : State) → lastWords (lose j v r s) ≡ lastWords s
+unfolding lastWords lose
+same-last j v r s = refl
+
+took : (j : Job) (s : State) (v : ℕ) (c : CandidateReg) (f : Bool) (vs : List ℕ) → stateOf (carryOut j s v (takes c f vs)) ≡ give j v c f (evictAll j vs s)
+unfolding carryOut
+took j s v c f vs = refl
+
+module _ (d : Decided) (v : ℕ) (rs : List Assignment) (maps uses sets sizes hints starts froms tos ends rests queue last : List ℕ) where
+  abbrev Out : List Assignment → List ℕ → List ℕ → List ℕ → List ℕ → Type 0
+  Out rs′ ends′ rests′ queue′ last′ = CarriedOut d v rs maps uses sets sizes hints starts froms tos ends rests queue last rs′ ends′ rests′ queue′ last′
+
+  -- what stands in the place of a step
+  outcome : (rs′ : List Assignment) (ends′ rests′ queue′ last′ : List ℕ)
+      → ((j : Job) (s : State) (t : StateBuffers) (q : Stage) → Reached j s → Good j s → Idle j s v → EvictReads j maps uses sizes hints starts tos → TakeReads j maps uses sets starts froms tos
+      → Stands j s t ends rests queue last → decisionOf d ≡ decide j s v q
+      → (x : State) × (stateOf (dequeue j s v q) ≡ x) × Stands j x t ends′ rests′ queue′ last′ × (rs ≡ records s → rs′ ≡ records x))
+      → Out rs′ ends′ rests′ queue′ last′
+  outcome rs′ ends′ rests′ queue′ last′ f =
+      record {
+        reached =
+            λ j s t q reach e k st is queued dec.
+            let g = good-reached j s reach in
+            let o = f j s t q reach g (queued-idle j s g v q queued) e k st dec in
+            (subst (λ (x : State). Stands j x t ends′ rests′ queue′ last′) (sym (o .1)) (o .2), o .3 is ∙ ap records (sym (o .1)));
+      }
+
+  -- a number above 511 is not queued
+  pub carried-nobody : 512 ≤ v → Out rs ends rests queue last
+  carried-nobody h = outcome rs ends rests queue last (λ j s t q reach g i e k st dec. absurd (omega (arith, h, i .known, g .premises .few-numbers)))
+
+  -- left over
+  pub carried-leaves : d .fate ≡ Leaves → (queue′ : List ℕ) → queue′ ≡ setWord v 0 queue → (rs′ : List Assignment) → rs′ ≡ set rs v Dead → Out rs′ ends rests queue′ last
+  unfolding leave carryOut
+  carried-leaves x queue′ pq rs′ pr =
+      outcome rs′ ends rests queue′ last
+      (λ j s t q reach g i e k st dec. (
+        leave v s,
+        by-fate d Leaves leaves x refl j s v q dec,
+        record {
+          moves =
+              record {
+                table = record { ends-are = st .moves .table .ends-are; rests-are = st .moves .table .rests-are };
+                queue-is = pq ∙ unqueued j s g (leave v s) v (i .known) (t .queue) queue (st .moves .queue-is) refl;
+              };
+          last-is = st .last-is ∙ ap (λ (l : List ℕ). l ++ t .last) (sym (leave-last j s g v (i .known)));
+        },
+        λ is. pr ∙ ap (λ (l : List Assignment). set l v Dead) is ∙ sym (leave-records j s g v (i .known)),
+      ))
+
+  -- queued otherwise: the table, the last registers and the records stay
+  requeued : (j : Job) (s : State) (t : StateBuffers) (g : Good j s) → Idle j s v → (q : Option Stage) (queue′ : List ℕ) → queue′ ≡ queueWords j (requeue v q s) ++ t .queue → Stands j s t ends rests queue last → Stands j (requeue v q s) t ends rests queue′ last
+  unfolding requeue
+  requeued j s t g i q queue′ p st =
+      record {
+        moves = record { table = record { ends-are = st .moves .table .ends-are; rests-are = st .moves .table .rests-are }; queue-is = p };
+        last-is = st .last-is ∙ ap (λ (l : List ℕ). l ++ t .last) (sym (requeue-last j s g v (i .known) q));
+      }
+
+  -- back to the queue at stage Split
+  pub carried-splits :
+      d .fate ≡ Splits
+      → (h : Bool) (z : ℕ)
+      → h ≡ ltb (getD hints v 0) (getD hints (v + 1) 0)
+      → z ≡ getD sizes v 0
+      → (queue′ : List ℕ)
+      → queue′ ≡ setWord v (keyOf v h z Split + 1) queue
+      → Out rs ends rests queue′ last
+  unfolding requeue carryOut
+  carried-splits x h z ph pz queue′ pq =
+      outcome rs ends rests queue′ last
+      (λ j s t q reach g i e k st dec.
+      let word : queue′ ≡ queueWords j (requeue v (some Split) s) ++ t .queue =
+      pq ∙ ap (λ (b : Bool). setWord v (keyOf v b z Split + 1) queue) ph ∙ ap (λ (n : ℕ). setWord v (keyOf v (ltb (getD hints v 0) (getD hints (v + 1) 0)) n Split + 1) queue) pz
+      ∙ queued-at j s g (requeue v (some Split) s) v (i .known) (t .queue) queue (st .moves .queue-is) Split refl hints sizes (e .hintStarts) (e .sizes-are) in (
+        requeue v (some Split) s,
+        by-fate d Splits splits x refl j s v q dec,
+        requeued j s t g i (some Split) queue′ word st,
+        λ is. is ∙ sym (requeue-records j s g v (i .known) (some Split)),
+      ))
+
+  -- off the queue, and the run ends
+  pub carried-fails : d .fate ≡ Fails → (queue′ : List ℕ) → queue′ ≡ setWord v 0 queue → Out rs ends rests queue′ last
+  unfolding requeue carryOut
+  carried-fails x queue′ pq =
+      outcome rs ends rests queue′ last
+      (λ j s t q reach g i e k st dec. (
+        requeue v none s,
+        by-fate d Fails fails x refl j s v q dec,
+        requeued j s t g i none queue′ (pq ∙ unqueued j s g (requeue v none s) v (i .known) (t .queue) queue (st .moves .queue-is) refl) st,
+        λ is. is ∙ sym (requeue-records j s g v (i .known) none),
+      ))
+
+  -- a register is taken on the state x that evictions left
+  gives :
+      (j : Job) (s x : State) (t : StateBuffers) (rs₁ : List Assignment) (ends₁ rests₁ queue₁ ends′ rests′ queue′ last′ : List ℕ)
+      → Reached j x
+      → TakeReads j maps uses sets starts froms tos
+      → Stands j x t ends₁ rests₁ queue₁ last
+      → Idle j x v
+      → T (named j v (d .to .reg))
+      → checkOf j x v (d .to .reg) ≡ []
+      → Taken v (d .to .reg) maps uses sets starts froms tos ends₁ rests₁ queue₁ last ends′ rests′ queue′ last′
+      → Stands j (give j v (d .to) (d .flag) x) t ends′ rests′ queue′ last′
+  gives j s x t rs₁ ends₁ rests₁ queue₁ ends′ rests′ queue′ last′ reach k st i names clear tk =
+      tk .reached j x t reach k st (i .known) (idle-unassigned j x v i) names clear (d .to) (d .flag) refl
+
+  -- and recorded
+  recorded :
+      (j : Job) (x : State) → Reached j x → Idle j x v → (rs₁ rs′ : List Assignment)
+      → rs₁ ≡ records x
+      → rs′ ≡ set rs₁ v (givenRecord (d .flag) (getD rs₁ v noRecord) (d .to))
+      → rs′ ≡ records (give j v (d .to) (d .flag) x)
+  recorded j x reach i rs₁ rs′ is pr =
+      let g = good-reached j x reach in
+      pr ∙ ap (λ (l : List Assignment). set l v (givenRecord (d .flag) (getD l v noRecord) (d .to))) is
+      ∙ ap (λ (b : Bool). set (records x) v (Holds (d .flag || b) (d .to .reg) (d .to .«preference_weight»))) (flag-read j x g v (i .known) (i .stays))
+      ∙ sym (give-records j x g v (i .known) (d .to) (d .flag) (i .stays))
+
+  -- a clear register is taken
+  pub carried-takes :
+      d .fate ≡ Takes
+      → (ends′ rests′ queue′ last′ : List ℕ)
+      → Taken v (d .to .reg) maps uses sets starts froms tos ends rests queue last ends′ rests′ queue′ last′
+      → (a : Assignment)
+      → a ≡ givenRecord (d .flag) (getD rs v noRecord) (d .to)
+      → Out (set rs v a) ends′ rests′ queue′ last′
+  unfolding carryOut evictAll foldl
+  carried-takes x ends′ rests′ queue′ last′ tk b pr =
+      outcome (set rs v b) ends′ rests′ queue′ last′
+      (λ j s t q reach g i e k st dec.
+      let a = takes-good j s g v i q (d .to) (d .flag) [] (sym dec ∙ ap (λ (z : Fate). decisionBy z d) x) in (
+        give j v (d .to) (d .flag) s,
+        by-fate d Takes (takes (d .to) (d .flag) []) x refl j s v q dec,
+        gives j s s t rs ends rests queue ends′ rests′ queue′ last′ reach k st i (a .candidate .names) (a .clear) tk,
+        λ is. recorded j s reach i rs (set rs v b) is (ap (set rs v) pr),
+      ))
+
+  -- a register is taken from its holders
+  pub carried-evicts :
+      d .fate ≡ Evicts
+      → (rs₁ : List Assignment) (ends₁ rests₁ queue₁ : List ℕ)
+      → EvictedAll (d .evicted) rs maps uses sizes hints starts tos ends rests queue rs₁ ends₁ rests₁ queue₁
+      → (ends′ rests′ queue′ last′ : List ℕ)
+      → Taken v (d .to .reg) maps uses sets starts froms tos ends₁ rests₁ queue₁ last ends′ rests′ queue′ last′
+      → (a : Assignment)
+      → a ≡ givenRecord (d .flag) (getD rs₁ v noRecord) (d .to)
+      → Out (set rs₁ v a) ends′ rests′ queue′ last′
+  carried-evicts x rs₁ ends₁ rests₁ queue₁ ea ends′ rests′ queue′ last′ tk b pr =
+      record {
+        reached =
+            λ j s t q reach e k st is queued dec.
+            let g = good-reached j s reach in
+            let i = queued-idle j s g v q queued in
+            let vs = members (d .evicted) in
+            let a = takes-good j s g v i q (d .to) (d .flag) vs (sym dec ∙ ap (λ (z : Fate). decisionBy z d) x) in
+            let y = evictAll j vs s in
+            let there = reached-evict-all j vs s reach in
+            let m = ea .reached j s t reach e (st .moves) is in
+            let lasts : last ≡ lastWords y ++ t .last = st .last-is ∙ ap (λ (l : List ℕ). l ++ t .last) (sym (evictAll-keeps lastWords j (λ v r s. same-last j v r s) vs s)) in
+            let step = by-fate d Evicts (takes (d .to) (d .flag) vs) x refl j s v q dec ∙ took j s v (d .to) (d .flag) vs in (
+              subst (λ (z : State). Stands j z t ends′ rests′ queue′ last′) (sym step)
+                  (gives j s y t rs₁ ends₁ rests₁ queue₁ ends′ rests′ queue′ last′ there k (record { moves = m .0; last-is = lasts }) (a .idle) (a .candidate .names) (a .clear) tk),
+              recorded j y there (a .idle) rs₁ (set rs₁ v b) (m .1) (ap (set rs₁ v) pr) ∙ ap records (sym step),
+            );
+      }

@@ -1,0 +1,340 @@
+-- Carrying out on a state that calls reach: what each move does to what is lent, and that the state of the rules stands there afterwards. Assumes
+-- nothing.
+use Prim.Native.Nat.{ℕ, _+_, _<_, _≤_}
+use native.Mathlib.Omega.{arith}
+use mathlib.Core.Path.{_≡_, refl, sym, ap, _∙_, subst}
+use mathlib.Core.Logic.{_⊎_, inl, inr}
+use mathlib.Core.List.{List, [], _∷_, _++_, map}
+use mathlib.Core.Option.{Option, none, some}
+use mathlib.Core.Bool.{Bool, true, false, not, _||_}
+use lib.Dec.{T, ltb}
+use lib.Ieee.{Float}
+use lib.ListN.{length, getD, set, take, drop, length-map, length-set, List·getD-map}
+use lib.Seq.{take-at, drop-at, ext-getD, set-append-left, getD-set-same, getD-set-other}
+use Rattle.reg_matrix.specs.Lists.{count, filter, foldl, keep, padded, isSome}
+use Rattle.reg_matrix.specs.Layout.{endWords, restWords, useWords}
+use Rattle.reg_matrix.proofs.Tests.{both}
+use Rattle.lent.proofs.Laws.{any-default}
+use Rattle.reg_matrix.proofs.Places.{padded-length, padded-read, from-zero, count-length, count-append, filter-append}
+use Rattle.matrix.specs.Moves.{words}
+use Rattle.matrix.specs.Placing.{Assigned, Evicted}
+use Rattle.matrix.specs.declared.Moved.{Moved}
+use Rattle.job.specs.Model.{Job, VirtReg, noVirtReg, virtReg, unitMap, segmentsOf, zeroWeight}
+use Rattle.job.specs.Layout.{jobBuffers, startsFrom}
+use Rattle.job.proofs.Premises.{IsNumber}
+use Rattle.allocator.specs.declared.CandidateReg.{CandidateReg}
+use Rattle.allocator.specs.declared.Assignment.{Assignment}
+use Rattle.allocator.specs.declared.Assignment.the-variants.{Assigned as Holds, Unassigned, Dead}
+use Rattle.allocator.specs.declared.Stage.{Stage}
+use Rattle.allocator.specs.declared.Stage.the-variants.{Evict, Split}
+use Rattle.allocator.specs.State.{State, heldBy, isLeftOver, flag, isUnassigned, checkOf, assignment, recordOf, records, give, lose, loseHeld, evictNumber, requeue, leave}
+use Rattle.allocator.specs.Order.{candidate}
+use Rattle.allocator.specs.Layout.{StateBuffers, keyWord, queueWords, lastWord, lastWords}
+use Rattle.allocator.specs.Calls.{named}
+use Rattle.allocator.specs.Reached.{Reached}
+use Rattle.allocator.proofs.Weights.{plain-zero}
+use Rattle.allocator.proofs.Holders.{same-or-not}
+use Rattle.allocator.proofs.Rebuilt.{named-known}
+use Rattle.allocator.proofs.Agrees.{Sizes, Candidate}
+use Rattle.allocator.proofs.Good.{Good, Idle, good-reached, holder-good, reached-evict}
+use Rattle.allocator.proofs.Records.{assigned-held, not-assigned, holder-stays, lose-records, give-last}
+use Rattle.stage.specs.QueueWalk.{keyOf, setWord}
+use Rattle.stage.proofs.QueueLaws.{tournament-length, set-tournament, key-is, size-at, has-hints}
+use Rattle.stage.proofs.ReachedMoves.{table-stands, uses-lie, assign-gives, evict-loses, evict-held, evict-nothing, evictMarked, marked-yes, marked-no, marked-end}
+use Rattle.context.specs.Standing.{Begins, TableStands, Moves, Stands}
+use Rattle.context.specs.Deciding.{shareOf, members, flagIn, isHeld, regIn}
+use Rattle.stage.specs.EvictWalk.{recordWeight}
+use Rattle.context.specs.Carrying.{EvictReads, TakeReads, TakenBack, EvictedAll, Taken}
+use Rattle.allocator.specs.Dequeue.{evictAll}
+use Rattle.context.proofs.Shares.{froms-share, tos-share}
+
+-- ---- lists
+
+module _ {A : Type 0} where
+  -- what begins with n of them
+  pub begins-take : (n : ℕ) (xs ys : List A) → length xs ≡ n → Begins xs ys → take n ys ≡ xs
+  begins-take n xs ys e b = ap (take n) (b .1) ∙ take-at xs (b .0) n e
+
+-- ---- the job's slices
+
+pub uses-are : (j : Job) (uses : List ℕ) → (b : Begins (jobBuffers j .fixedUses) uses) → uses ≡ useWords (j .fixed) ++ b .0
+unfolding jobBuffers
+uses-are j uses b = b .1
+
+starts-size : (n : ℕ) (xs : List VirtReg) → length (startsFrom (λ (x : VirtReg). length (x .hints)) n xs) ≡ length xs + 1
+unfolding startsFrom
+starts-size n [] = refl
+starts-size n (x ∷ xs) = omega (arith, starts-size (n + length (x .hints)) xs)
+
+module _ (j : Job) (s : State) (g : Good j s) where
+  few : length (j .virtRegs) ≤ 512
+  few = g .premises .few-numbers
+
+  below : (v : ℕ) → IsNumber j v → v < 512
+  below v b = omega (arith, b, few)
+
+  -- the map of units of one of the job's registers
+  pub units-read : (maps : List ℕ) → Begins (jobBuffers j .regs) maps → (r : ℕ) → r < 64 → getD maps r 0 ≡ unitMap j r
+  unfolding jobBuffers
+  units-read maps b r h = ap (λ (l : List ℕ). getD l r 0) (b .1) ∙ padded-read 64 0 (j .regs) (b .0) r (g .premises .few-regs) h
+
+  pub sets-read : (sets : List ℕ) → Begins (jobBuffers j .valueSets) sets → (v : ℕ) → IsNumber j v → getD sets v 0 ≡ virtReg j v .valueSet
+  unfolding jobBuffers virtReg
+  sets-read sets b v known =
+      ap (λ (l : List ℕ). getD l v 0) (b .1)
+      ∙ padded-read 512 0 (map (λ (x : VirtReg). x .valueSet) (j .virtRegs)) (b .0) v (simp length-map few) (below v known)
+      ∙ any-default (map (λ (x : VirtReg). x .valueSet) (j .virtRegs)) v 0 (noVirtReg .valueSet) (simp length-map (omega (arith, known)))
+      ∙ List·getD-map (λ (x : VirtReg). x .valueSet) (j .virtRegs) v noVirtReg
+
+  -- ---- the queue
+
+  module _ (t : State) (v : ℕ) (known : IsNumber j v) (qt queue : List ℕ) (is : queue ≡ queueWords j s ++ qt) where
+    word-set : (q : Option Stage) → t .queued ≡ set (s .queued) v q → setWord v (keyWord j v q) queue ≡ queueWords j t ++ qt
+    word-set q e =
+        set-tournament j s queue (g .agrees .sizes .queued) (ap (take 1024) is ∙ take-at (queueWords j s) qt 1024 (tournament-length j s)) t v q (below v known) e
+        ∙ ap (λ (l : List ℕ). queueWords j t ++ l) (ap (drop 1024) is ∙ drop-at (queueWords j s) qt 1024 (tournament-length j s))
+
+    -- v off the queue
+    pub unqueued : t .queued ≡ set (s .queued) v none → setWord v 0 queue ≡ queueWords j t ++ qt
+    unqueued e = word-set none e
+
+    -- v in the queue at a stage, by what is lent of its hints and its size
+    pub queued-at :
+        (q : Stage)
+        → t .queued ≡ set (s .queued) v (some q)
+        → (hints sizes : List ℕ)
+        → Begins (jobBuffers j .hintStarts) hints
+        → Begins (jobBuffers j .sizes) sizes
+        → setWord v (keyOf v (ltb (getD hints v 0) (getD hints (v + 1) 0)) (getD sizes v 0) q + 1) queue ≡ queueWords j t ++ qt
+    unfolding jobBuffers
+    queued-at q e hints sizes bh bs =
+        let a = begins-take 513 _ hints (padded-length 513 0 (startsFrom (λ (x : VirtReg). length (x .hints)) 0 (j .virtRegs)) (omega (arith, starts-size 0 (j .virtRegs), few))) bh in
+        let b = begins-take 512 _ sizes (padded-length 512 0 (map (λ (x : VirtReg). x .size) (j .virtRegs)) (simp length-map few)) bs in
+        ap (λ (k : ℕ). setWord v (k + 1) queue)
+        (ap (λ (z : ℕ). keyOf v (ltb (getD hints v 0) (getD hints (v + 1) 0)) z q) (size-at j few hints sizes a b v known)
+        ∙ key-is j v q (ltb (getD hints v 0) (getD hints (v + 1) 0)) (has-hints j few hints sizes a b v known))
+        ∙ word-set (some q) e
+
+-- ---- a number loses its register
+
+pub taken-back :
+    (v reg : ℕ) (maps uses sizes hints starts tos ends rests queue ends′ rests′ queue′ own : List ℕ) (m : ℕ) (r : Moved) (h : Bool) (z : ℕ)
+    → own ≡ shareOf starts v tos
+    → m ≡ getD maps reg 0
+    → Evicted v m uses own (words ends rests) (words ends′ rests′) r
+    → h ≡ ltb (getD hints v 0) (getD hints (v + 1) 0)
+    → z ≡ getD sizes v 0
+    → queue′ ≡ setWord v (keyOf v h z Evict + 1) queue
+    → TakenBack v reg maps uses sizes hints starts tos ends rests queue ends′ rests′ queue′
+unfolding lose
+taken-back v reg maps uses sizes hints starts tos ends rests queue ends′ rests′ queue′ own m r h z po pm ev ph pz pq =
+    record {
+      reached =
+          λ j s t reach e mv c held is.
+          let g = good-reached j s reach in
+          let k = holder-good j s g v c held in
+          let small : c .reg < 64 = omega (arith, k .2, g .premises .few-regs) in
+          let mine : own ≡ map (λ x. x .to) (segmentsOf j v) =
+          po ∙ ap (λ (l : List ℕ). shareOf l v tos) (e .segmentStarts .1) ∙ ap (shareOf (jobBuffers j .segmentStarts ++ e .segmentStarts .0) v) (e .tos-are .1)
+          ∙ tos-share j v (k .0) (e .segmentStarts .0) (e .tos-are .0) in
+          let done =
+          evict-loses j s g (t .ends) (t .rests) (e .fixedUses .0) uses (words ends rests) (words ends′ rests′)
+          (table-stands j s g ends rests (t .ends) (t .rests) (mv .table .ends-are) (mv .table .rests-are))
+          (uses-lie j s g uses (e .fixedUses .0) (uses-are j uses (e .fixedUses)))
+          v m [] own mine c
+          (pm ∙ ap (λ (n : ℕ). getD maps n 0) (sym is) ∙ units-read j s g maps (e .regs) (c .reg) small)
+          r held ev in
+          record {
+            table = record { ends-are = done .stands .ends-are; rests-are = done .stands .rests-are };
+            queue-is =
+                pq ∙ ap (λ (b : Bool). setWord v (keyOf v b z Evict + 1) queue) ph
+                ∙ ap (λ (n : ℕ). setWord v (keyOf v (ltb (getD hints v 0) (getD hints (v + 1) 0)) n Evict + 1) queue) pz
+                ∙ queued-at j s g (lose j v (c .reg) s) v (k .0) (t .queue) queue (mv .queue-is) Evict refl hints sizes (e .hintStarts) (e .sizes-are);
+          };
+    }
+
+-- ---- a number takes a register
+
+-- the register is the last one of v's set
+last-set : (j : Job) (s : State) (g : Good j s) (v : ℕ) → IsNumber j v → (c : CandidateReg) (f : Bool) (lt last : List ℕ) → last ≡ lastWords s ++ lt → set last (virtReg j v .valueSet) (c .reg + 1) ≡ lastWords (give j v c f s) ++ lt
+unfolding lastWords
+last-set j s g v known c f lt last is =
+    ap (λ (l : List ℕ). set l (virtReg j v .valueSet) (c .reg + 1)) is
+    ∙ set-append-left (map w (count 0 512)) lt (virtReg j v .valueSet) (c .reg + 1) (omega (arith, length-map (count 0 512) w, count-length 0 512, g .premises .small-sets v known))
+    ∙ ap (λ (l : List ℕ). l ++ lt) (sym (give-last j s g v known c f))
+  where
+    w : ℕ → ℕ
+    w t = lastWord (getD (s .last) t none)
+
+pub taken :
+    (v reg : ℕ) (maps uses sets starts froms tos ends rests queue last ends′ rests′ queue′ last′ from to : List ℕ) (m : ℕ) (r : Moved) (k w : ℕ)
+    → from ≡ shareOf starts v froms
+    → to ≡ shareOf starts v tos
+    → m ≡ getD maps reg 0
+    → Assigned v m uses from to (words ends rests) (words ends′ rests′) r
+    → queue′ ≡ setWord v 0 queue
+    → k ≡ getD sets v 0
+    → (reg < 255 → w ≡ reg + 1)
+    → last′ ≡ set last k w
+    → Taken v reg maps uses sets starts froms tos ends rests queue last ends′ rests′ queue′ last′
+unfolding give jobBuffers virtReg
+taken v reg maps uses sets starts froms tos ends rests queue last ends′ rests′ queue′ last′ from to m r k w pf pt pm pa pq pk pw pl =
+    record {
+      reached =
+          λ j s t reach e st known free names clear c f is.
+          let g = good-reached j s reach in
+          let b = named-known j (g .premises) v reg known names in
+          let small : reg < 64 = omega (arith, b, g .premises .few-regs) in
+          let u = both (not (isSome (heldBy s v))) (not (isLeftOver s v)) free in
+          let mine : from ≡ map (λ x. x .from) (segmentsOf j v) =
+          pf ∙ ap (λ (l : List ℕ). shareOf l v froms) (e .segmentStarts .1) ∙ ap (shareOf (jobBuffers j .segmentStarts ++ e .segmentStarts .0) v) (e .froms-are .1)
+          ∙ froms-share j v known (e .segmentStarts .0) (e .froms-are .0) in
+          let mine′ : to ≡ map (λ x. x .to) (segmentsOf j v) =
+          pt ∙ ap (λ (l : List ℕ). shareOf l v tos) (e .segmentStarts .1) ∙ ap (shareOf (jobBuffers j .segmentStarts ++ e .segmentStarts .0) v) (e .tos-are .1)
+          ∙ tos-share j v known (e .segmentStarts .0) (e .tos-are .0) in
+          let idle : Idle j s v = record { known = known; holds-nothing = not-some (heldBy s v) (u .0); stays = u .1 } in
+          let done =
+          assign-gives j s g (t .ends) (t .rests) (e .fixedUses .0) uses (words ends rests) (words ends′ rests′)
+          (table-stands j s g ends rests (t .ends) (t .rests) (st .moves .table .ends-are) (st .moves .table .rests-are))
+          (uses-lie j s g uses (e .fixedUses .0) (uses-are j uses (e .fixedUses)))
+          v m from to mine′ (candidate reg zeroWeight)
+          (pm ∙ units-read j s g maps (e .regs) reg small)
+          r mine idle (record { names = names; plain = plain-zero }) clear pa false in
+          record {
+            moves =
+                record {
+                  table =
+                      record {
+                        ends-are = done .stands .ends-are ∙ sym (ap (λ (n : ℕ). endWords (give j v (candidate n zeroWeight) false s .table) ++ t .ends) is);
+                        rests-are = done .stands .rests-are ∙ sym (ap (λ (n : ℕ). restWords (give j v (candidate n zeroWeight) false s .table) ++ t .rests) is);
+                      };
+                  queue-is = pq ∙ unqueued j s g (give j v c f s) v known (t .queue) queue (st .moves .queue-is) refl;
+                };
+            last-is =
+                pl ∙ ap (λ (n : ℕ). set last n w) (pk ∙ sets-read j s g sets (e .valueSets) v known) ∙ ap (set last (virtReg j v .valueSet)) (pw (omega arith) ∙ ap (λ (n : ℕ). n + 1) (sym is))
+                ∙ last-set j s g v known c f (t .last) last (st .last-is);
+          };
+    }
+  where
+    not-some : (o : Option CandidateReg) → T (not (isSome o)) → o ≡ none
+    not-some none t = refl
+    not-some (some c) t = absurd t
+
+-- ---- a set of numbers, one after another
+
+-- a record that holds a register, by its parts
+held-as : (a : Assignment) (f : Bool) (r : ℕ) → isHeld a ≡ true → f ≡ flagIn a → r ≡ regIn a → a ≡ Holds f r (recordWeight a)
+held-as (Holds g q w) f r y p e = ap (λ (b : Bool). Holds b q w) (sym p) ∙ ap (λ (n : ℕ). Holds f n w) (sym e)
+held-as (Unassigned g) f r y p e = absurd (subst (λ (x : Bool). T (not x)) y tt)
+held-as Dead f r y p e = absurd (subst (λ (x : Bool). T (not x)) y tt)
+
+-- those below i are done: the state then is x, and evicting the others from i on gives what evicting all gives
+pub record Onward (j : Job) (s : State) (t : StateBuffers) (i : ℕ) (gone : List Bool) (rs′ : List Assignment) (ends′ rests′ queue′ : List ℕ) : Type 0 where
+  pub x : State
+  pub reached : Reached j x
+  pub moves : Moves j x t ends′ rests′ queue′
+  pub records-are : rs′ ≡ records x
+  pub whole : evictMarked j gone i x i x ≡ evictAll j (members gone) s
+
+pub record EvictedTo (i : ℕ) (gone : List Bool) (rs : List Assignment) (maps uses sizes hints starts tos ends rests queue : List ℕ) (rs′ : List Assignment) (ends′ rests′ queue′ : List ℕ) : Type 0 where
+  pub onward :
+      (j : Job) (s : State) (t : StateBuffers)
+      → Reached j s
+      → EvictReads j maps uses sizes hints starts tos
+      → Moves j s t ends rests queue
+      → rs ≡ records s
+      → Onward j s t i gone rs′ ends′ rests′ queue′
+
+module _ (gone : List Bool) (rs : List Assignment) (maps uses sizes hints starts tos ends rests queue : List ℕ) where
+  abbrev To : ℕ → List Assignment → List ℕ → List ℕ → List ℕ → Type 0
+  To i rs′ ends′ rests′ queue′ = EvictedTo i gone rs maps uses sizes hints starts tos ends rests queue rs′ ends′ rests′ queue′
+
+  pub evict-start : To 0 rs ends rests queue
+  unfolding members
+  evict-start = record { onward = λ j s t reach e mv is. record { x = s; reached = reach; moves = mv; records-are = is; whole = refl } }
+
+  module _ (i : ℕ) (rs′ : List Assignment) (ends′ rests′ queue′ : List ℕ) (so-far : To i rs′ ends′ rests′ queue′) where
+    pub evict-end : 512 ≤ i → EvictedAll gone rs maps uses sizes hints starts tos ends rests queue rs′ ends′ rests′ queue′
+    evict-end h =
+        record {
+          reached =
+              λ j s t reach e mv is.
+              let o = so-far .onward j s t reach e mv is in
+              let all : o .x ≡ evictAll j (members gone) s = marked-end j gone i (o .x) h ∙ o .whole in
+              (subst (λ (x : State). Moves j x t ends′ rests′ queue′) all (o .moves), o .records-are ∙ ap records all);
+        }
+
+    -- i is not of the set
+    pub evict-pass : i < 512 → getD gone i false ≡ false → To (i + 1) rs′ ends′ rests′ queue′
+    evict-pass l n =
+        record {
+          onward =
+              λ j s t reach e mv is.
+              let o = so-far .onward j s t reach e mv is in
+              record { x = o .x; reached = o .reached; moves = o .moves; records-are = o .records-are; whole = marked-no j gone i (o .x) l n ∙ o .whole };
+        }
+
+    module _ (l : i < 512) (m : getD gone i false ≡ true) (a d : Assignment) (has : getD rs′ i d ≡ a) where
+      -- the record of i in a state whose records these are
+      own : (x : State) → rs′ ≡ records x → recordOf x i ≡ a
+      unfolding records
+      own x is = sym (from-zero (recordOf x) d 512 i l) ∙ sym (ap (λ (r : List Assignment). getD r i d) is) ∙ has
+
+      -- i holds nothing
+      pub evict-idle : isHeld a ≡ false → To (i + 1) rs′ ends′ rests′ queue′
+      evict-idle n =
+          record {
+            onward =
+                λ j s t reach e mv is.
+                let o = so-far .onward j s t reach e mv is in
+                let none-held = not-assigned j (o .x) (good-reached j (o .x) (o .reached)) i (λ f r w q. not-held (sym (own (o .x) (o .records-are)) ∙ q)) in
+                record {
+                  x = o .x;
+                  reached = o .reached;
+                  moves = o .moves;
+                  records-are = o .records-are;
+                  whole =
+                      ap (λ (y : State). evictMarked j gone i (o .x) (i + 1) y) (sym (evict-nothing j (o .x) i none-held))
+                      ∙ marked-yes j gone i (o .x) l m ∙ o .whole;
+                };
+          }
+        where
+          not-held : {f : Bool} {r : ℕ} {w : Float} → a ≡ Holds f r w → ⊥
+          not-held q = subst (λ (x : Bool). T (not x)) (sym n ∙ ap isHeld q) tt
+
+      -- i loses its register
+      pub evict-one :
+          (f : Bool) (reg : ℕ)
+          → isHeld a ≡ true
+          → f ≡ flagIn a
+          → reg ≡ regIn a
+          → (ends″ rests″ queue″ : List ℕ)
+          → TakenBack i reg maps uses sizes hints starts tos ends′ rests′ queue′ ends″ rests″ queue″
+          → (rs″ : List Assignment)
+          → rs″ ≡ set rs′ i (Unassigned f)
+          → To (i + 1) rs″ ends″ rests″ queue″
+      evict-one f reg y pf pr ends″ rests″ queue″ tb rs″ st =
+          record {
+            onward =
+                λ j s t reach e mv is.
+                let o = so-far .onward j s t reach e mv is in
+                let g = good-reached j (o .x) (o .reached) in
+                let w = recordWeight a in
+                let h = assigned-held j (o .x) g i f reg w (own (o .x) (o .records-are) ∙ held-as a f reg y pf pr) in
+                let gone-one = evict-held j (o .x) i (candidate reg w) (h .0) in
+                record {
+                  x = lose j i reg (o .x);
+                  reached = subst (λ (y : State). Reached j y) gone-one (reached-evict j (o .x) (o .reached) i);
+                  moves = tb .reached j (o .x) t (o .reached) e (o .moves) (candidate reg w) (h .0) refl;
+                  records-are =
+                      st ∙ ap (λ (r : List Assignment). set r i (Unassigned f)) (o .records-are)
+                      ∙ ap (λ (b : Bool). set (records (o .x)) i (Unassigned b)) (sym (h .1))
+                      ∙ sym (lose-records j (o .x) g i (holder-good j (o .x) g i (candidate reg w) (h .0) .0) reg (not-left (holder-stays j (o .x) g i (candidate reg w) (h .0))));
+                  whole =
+                      ap (λ (y : State). evictMarked j gone i (o .x) (i + 1) y) (sym gone-one)
+                      ∙ marked-yes j gone i (o .x) l m ∙ o .whole;
+                };
+          }
+        where
+          not-left : {b : Bool} → b ≡ false → T (not b)
+          not-left {b} p = subst (λ (c : Bool). T (not c)) (sym p) tt

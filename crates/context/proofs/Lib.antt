@@ -1,0 +1,6 @@
+pub mod DecideLaws
+pub mod Shares
+pub mod CarryLaws
+pub mod Decision
+pub mod Carried
+pub mod RunLaws

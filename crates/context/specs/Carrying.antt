@@ -1,0 +1,89 @@
+-- What carrying a decision out does to what is lent, on a state that calls reach: afterwards the state that the rules give stands there. On any other
+-- state these say nothing. Assumes nothing.
+use Prim.Native.Nat.{ℕ, _<_}
+use mathlib.Core.Path.{_≡_}
+use mathlib.Core.List.{List, []}
+use mathlib.Core.Option.{Option, some, none}
+use mathlib.Core.Bool.{Bool}
+use lib.Dec.{T}
+use lib.ListN.{length, getD}
+use Rattle.job.specs.Model.{Job}
+use Rattle.job.specs.Layout.{jobBuffers}
+use Rattle.allocator.specs.declared.Assignment.{Assignment}
+use Rattle.allocator.specs.declared.CandidateReg.{CandidateReg}
+use Rattle.allocator.specs.declared.Stage.{Stage}
+use Rattle.allocator.specs.State.{State, heldBy, isUnassigned, checkOf, records, give, lose}
+use Rattle.allocator.specs.Dequeue.{decide, stateOf, evictAll, dequeue}
+use Rattle.allocator.specs.Layout.{StateBuffers}
+use Rattle.allocator.specs.Calls.{named}
+use Rattle.allocator.specs.Reached.{Reached}
+use Rattle.context.specs.Standing.{Begins, Moves, Stands}
+use Rattle.context.specs.Deciding.{Decided, members, decisionOf}
+
+-- the job's slices that an eviction reads
+pub record EvictReads (j : Job) (maps uses sizes hints starts tos : List ℕ) : Type 0 where
+  pub regs : Begins (jobBuffers j .regs) maps
+  pub fixedUses : Begins (jobBuffers j .fixedUses) uses
+  pub sizes-are : Begins (jobBuffers j .sizes) sizes
+  pub hintStarts : Begins (jobBuffers j .hintStarts) hints
+  pub segmentStarts : Begins (jobBuffers j .segmentStarts) starts
+  pub tos-are : Begins (jobBuffers j .tos) tos
+
+-- those that a placement reads
+pub record TakeReads (j : Job) (maps uses sets starts froms tos : List ℕ) : Type 0 where
+  pub regs : Begins (jobBuffers j .regs) maps
+  pub fixedUses : Begins (jobBuffers j .fixedUses) uses
+  pub valueSets : Begins (jobBuffers j .valueSets) sets
+  pub segmentStarts : Begins (jobBuffers j .segmentStarts) starts
+  pub froms-are : Begins (jobBuffers j .froms) froms
+  pub tos-are : Begins (jobBuffers j .tos) tos
+
+-- v, which holds the register, loses it and is queued at stage Evict
+pub record TakenBack (v reg : ℕ) (maps uses sizes hints starts tos ends rests queue ends′ rests′ queue′ : List ℕ) : Type 0 where
+  pub reached :
+      (j : Job) (s : State) (t : StateBuffers)
+      → Reached j s
+      → EvictReads j maps uses sizes hints starts tos
+      → Moves j s t ends rests queue
+      → (c : CandidateReg)
+      → heldBy s v ≡ some c
+      → c .reg ≡ reg
+      → Moves j (lose j v (c .reg) s) t ends′ rests′ queue′
+
+-- all of a set are evicted
+pub record EvictedAll (gone : List Bool) (rs : List Assignment) (maps uses sizes hints starts tos ends rests queue : List ℕ) (rs′ : List Assignment) (ends′ rests′ queue′ : List ℕ) : Type 0 where
+  pub reached :
+      (j : Job) (s : State) (t : StateBuffers)
+      → Reached j s
+      → EvictReads j maps uses sizes hints starts tos
+      → Moves j s t ends rests queue
+      → rs ≡ records s
+      → Moves j (evictAll j (members gone) s) t ends′ rests′ queue′ × (rs′ ≡ records (evictAll j (members gone) s))
+
+-- v, which holds nothing, takes a register that it may have and that is clear
+pub record Taken (v reg : ℕ) (maps uses sets starts froms tos ends rests queue last ends′ rests′ queue′ last′ : List ℕ) : Type 0 where
+  pub reached :
+      (j : Job) (s : State) (t : StateBuffers)
+      → Reached j s
+      → TakeReads j maps uses sets starts froms tos
+      → Stands j s t ends rests queue last
+      → v < length (j .virtRegs)
+      → T (isUnassigned s v)
+      → T (named j v reg)
+      → checkOf j s v reg ≡ []
+      → (c : CandidateReg) (f : Bool)
+      → c .reg ≡ reg
+      → Stands j (give j v c f s) t ends′ rests′ queue′ last′
+
+-- what the dequeue of v decides is carried out
+pub record CarriedOut (d : Decided) (v : ℕ) (rs : List Assignment) (maps uses sets sizes hints starts froms tos ends rests queue last : List ℕ) (rs′ : List Assignment) (ends′ rests′ queue′ last′ : List ℕ) : Type 0 where
+  pub reached :
+      (j : Job) (s : State) (t : StateBuffers) (q : Stage)
+      → Reached j s
+      → EvictReads j maps uses sizes hints starts tos
+      → TakeReads j maps uses sets starts froms tos
+      → Stands j s t ends rests queue last
+      → rs ≡ records s
+      → getD (s .queued) v none ≡ some q
+      → decisionOf d ≡ decide j s v q
+      → Stands j (stateOf (dequeue j s v q)) t ends′ rests′ queue′ last′ × (rs′ ≡ records (stateOf (dequeue j s v q)))

@@ -1,0 +1,4 @@
+pub mod Deciding
+pub mod Standing
+pub mod Carrying
+pub mod Running

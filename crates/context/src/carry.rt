@@ -1,0 +1,290 @@
+// Carrying out what a dequeue decided (`Context::allocate`, `assign`, `evict`): the table, the queue, the last registers and the records.
+ghost use mathlib.Core.Path.{_≡_};
+ghost use lib.Dec.{ltb};
+ghost use lib.ListN.{getD};
+ghost use Prim.Native.Nat.{_+_, _<_};
+ghost use Rattle.context.specs.Deciding.{isHeld, regIn, givenRecord};
+ghost use Rattle.context.specs.Carrying.{TakenBack, EvictedAll, Taken, CarriedOut};
+use crate::Decided;
+use crate::Fate;
+use crate::decide::flag_of;
+use crate::parts::of32;
+use allocator::Assignment;
+use allocator::CandidateReg;
+use allocator::Stage;
+use lent::at;
+use lent::at16;
+use lent::at32;
+use lent::put8;
+use matrix::assign::assign;
+use matrix::assign::evict;
+use stage::queue::enqueue;
+use stage::queue::remove;
+
+// Whether a number has hints: they begin before the next one's do.
+fn has_hints(starts: &[u16], v: u16) -> bool
+    ensures { λ r. ⌜ r ≡ ltb (getD (now (starts .entry)) v 0) (getD (now (starts .entry)) (v + 1) 0) ⌝ }
+{
+    let i = v as usize;
+    at16(starts, i) < at16(starts, i + 1)
+}
+
+// The number loses its register: its entries leave the table, and it is queued at stage Evict.
+pub fn take_back(
+    v: u16,
+    reg: u8,
+    maps: &[u64],
+    uses: &[u64],
+    sizes: &[u32],
+    hint_starts: &[u16],
+    segment_starts: &[u16],
+    tos: &[u32],
+    ends: &mut [u64],
+    rests: &mut [u64],
+    queue: &mut [u64],
+)
+    ensures { λ r. ⌜ TakenBack v reg (now (maps .entry)) (now (uses .entry)) (now (sizes .entry)) (now («hint_starts» .entry)) (now («segment_starts» .entry)) (now (tos .entry)) (now (ends .entry)) (now (rests .entry)) (now (queue .entry)) (now (ends .exit)) (now (rests .exit)) (now (queue .exit)) ⌝ }
+{
+    let own = of32(segment_starts, v, tos);
+    evict(ends, rests, uses, v, at(maps, reg as usize), own);
+    enqueue(
+        queue,
+        v,
+        has_hints(hint_starts, v),
+        at32(sizes, v as usize),
+        Stage::Evict,
+    );
+}
+
+// Whether a record holds a register.
+pub fn is_assigned(a: Assignment) -> bool
+    ensures { λ r. ⌜ r ≡ isHeld a ⌝ }
+{
+    match a {
+        Assignment::Assigned {
+            evicted_for_preference: _,
+            reg: _,
+            preference_weight: _,
+        } => true,
+        Assignment::Unassigned {
+            evicted_for_preference: _,
+        } => false,
+        Assignment::Dead => false,
+    }
+}
+
+// The register that a record holds, or 0.
+pub fn reg_of(a: Assignment) -> u8
+    ensures { λ r. ⌜ r ≡ regIn a ⌝ }
+{
+    match a {
+        Assignment::Assigned {
+            evicted_for_preference: _,
+            reg,
+            preference_weight: _,
+        } => reg,
+        Assignment::Unassigned {
+            evicted_for_preference: _,
+        } => 0,
+        Assignment::Dead => 0,
+    }
+}
+
+// All of a set lose their registers, in ascending order.
+fn evict_all(
+    records: [Assignment; 512],
+    gone: [bool; 512],
+    maps: &[u64],
+    uses: &[u64],
+    sizes: &[u32],
+    hint_starts: &[u16],
+    segment_starts: &[u16],
+    tos: &[u32],
+    ends: &mut [u64],
+    rests: &mut [u64],
+    queue: &mut [u64],
+) -> [Assignment; 512]
+    ensures { λ r. ⌜ EvictedAll gone records (now (maps .entry)) (now (uses .entry)) (now (sizes .entry)) (now («hint_starts» .entry)) (now («segment_starts» .entry)) (now (tos .entry)) (now (ends .entry)) (now (rests .entry)) (now (queue .entry)) r (now (ends .exit)) (now (rests .exit)) (now (queue .exit)) ⌝ }
+{
+    let mut all = records;
+    let mut i: usize = 0;
+    while i < 512 {
+        let v = i;
+        i += 1;
+        if gone[v] {
+            let a = all[v];
+            if is_assigned(a) {
+                all[v] = Assignment::Unassigned {
+                    evicted_for_preference: flag_of(a),
+                };
+                take_back(
+                    v as u16,
+                    reg_of(a),
+                    maps,
+                    uses,
+                    sizes,
+                    hint_starts,
+                    segment_starts,
+                    tos,
+                    ends,
+                    rests,
+                    queue,
+                );
+            }
+        }
+    }
+    all
+}
+
+// How a register is kept as the last one of a set.
+fn word_of(reg: u8) -> u8
+    ensures { λ r. ⌜ (reg < 255 → r ≡ reg + 1) ⌝ }
+{
+    if reg < 255 { reg + 1 } else { 0 }
+}
+
+// The number takes the register: its segments go into the table, it leaves the queue, and the register is the last one of its set.
+pub fn take(
+    v: u16,
+    reg: u8,
+    maps: &[u64],
+    uses: &[u64],
+    sets: &[u16],
+    segment_starts: &[u16],
+    froms: &[u32],
+    tos: &[u32],
+    ends: &mut [u64],
+    rests: &mut [u64],
+    queue: &mut [u64],
+    last: &mut [u8],
+)
+    ensures { λ r. ⌜ Taken v reg (now (maps .entry)) (now (uses .entry)) (now (sets .entry)) (now («segment_starts» .entry)) (now (froms .entry)) (now (tos .entry)) (now (ends .entry)) (now (rests .entry)) (now (queue .entry)) (now (last .entry)) (now (ends .exit)) (now (rests .exit)) (now (queue .exit)) (now (last .exit)) ⌝ }
+{
+    let from = of32(segment_starts, v, froms);
+    let to = of32(segment_starts, v, tos);
+    assign(ends, rests, uses, v, at(maps, reg as usize), from, to);
+    remove(queue, v);
+    put8(last, at16(sets, v as usize) as usize, word_of(reg));
+}
+
+// The record of a number that takes a register: its flag stays on, or turns on.
+fn given(flag: bool, before: Assignment, to: CandidateReg) -> Assignment
+    ensures { λ r. ⌜ r ≡ givenRecord flag before to ⌝ }
+{
+    if flag {
+        return Assignment::Assigned {
+            evicted_for_preference: true,
+            reg: to.reg,
+            preference_weight: to.preference_weight,
+        };
+    }
+    Assignment::Assigned {
+        evicted_for_preference: flag_of(before),
+        reg: to.reg,
+        preference_weight: to.preference_weight,
+    }
+}
+
+// What the dequeue of v decided is carried out: the records afterwards.
+pub fn carry_out(
+    records: [Assignment; 512],
+    d: Decided,
+    v: u16,
+    maps: &[u64],
+    uses: &[u64],
+    sets: &[u16],
+    sizes: &[u32],
+    hint_starts: &[u16],
+    segment_starts: &[u16],
+    froms: &[u32],
+    tos: &[u32],
+    ends: &mut [u64],
+    rests: &mut [u64],
+    queue: &mut [u64],
+    last: &mut [u8],
+) -> [Assignment; 512]
+    ensures { λ r. ⌜ CarriedOut d v records (now (maps .entry)) (now (uses .entry)) (now (sets .entry)) (now (sizes .entry)) (now («hint_starts» .entry)) (now («segment_starts» .entry)) (now (froms .entry)) (now (tos .entry)) (now (ends .entry)) (now (rests .entry)) (now (queue .entry)) (now (last .entry)) r (now (ends .exit)) (now (rests .exit)) (now (queue .exit)) (now (last .exit)) ⌝ }
+{
+    let i = v as usize;
+    if 512 <= i {
+        return records;
+    }
+    let fate = d.fate;
+    match fate {
+        Fate::Leaves => {
+            remove(queue, v);
+            let mut all = records;
+            all[i] = Assignment::Dead;
+            all
+        }
+        Fate::Splits => {
+            enqueue(
+                queue,
+                v,
+                has_hints(hint_starts, v),
+                at32(sizes, i),
+                Stage::Split,
+            );
+            records
+        }
+        Fate::Fails => {
+            remove(queue, v);
+            records
+        }
+        Fate::Takes => {
+            let to = d.to;
+            let mut all = records;
+            let a = all[i];
+            all[i] = given(d.flag, a, to);
+            take(
+                v,
+                to.reg,
+                maps,
+                uses,
+                sets,
+                segment_starts,
+                froms,
+                tos,
+                ends,
+                rests,
+                queue,
+                last,
+            );
+            all
+        }
+        Fate::Evicts => {
+            let to = d.to;
+            let gone = d.evicted;
+            let mut all = evict_all(
+                records,
+                gone,
+                maps,
+                uses,
+                sizes,
+                hint_starts,
+                segment_starts,
+                tos,
+                ends,
+                rests,
+                queue,
+            );
+            let a = all[i];
+            all[i] = given(d.flag, a, to);
+            take(
+                v,
+                to.reg,
+                maps,
+                uses,
+                sets,
+                segment_starts,
+                froms,
+                tos,
+                ends,
+                rests,
+                queue,
+                last,
+            );
+            all
+        }
+    }
+}

@@ -1,0 +1,3 @@
+pub mod WeightBits
+pub mod Turns
+pub mod Joined

@@ -1,0 +1,2 @@
+pub mod Virt
+pub mod Whole

@@ -1,0 +1,519 @@
+// The virtual registers of a job, with their hints and segments.
+ghost use mathlib.Core.Path.{_≡_};
+ghost use mathlib.Core.Bool.{not, _&&_};
+ghost use mathlib.Core.List.{[]};
+ghost use Prim.Native.Nat.{_+_, _-_, _/_, _%_, _≤_};
+ghost use lib.Dec.{eqb};
+ghost use lib.ListN.{length, drop, set};
+ghost use Rattle.job.specs.Load.{hint as hintOf, range as rangeOf, segment as segmentOf, hintCount, segmentCount, hints as hintsOf, segments as segmentsOf, spillBits, known, virtRegFields, virtRegAt, virtRegAfter};
+ghost use Rattle.job.specs.Parser.{each, ifBit, little};
+ghost use Rattle.reader.specs.Read.{Num, Outcome, Counted, HintsAt, SegmentsAt, VirtsAt, tableOf};
+ghost use Rattle.fields.specs.Virt.{hintView, segmentView, fieldsView, VirtOut, VirtsOut, FieldsAt, TableOut};
+use job::Hint;
+use job::VirtRegFields;
+use lent::put_float;
+use lent::put8;
+use lent::put16;
+use lent::put32;
+use reader::read::Next;
+use reader::read::Number;
+use reader::read::Read;
+use reader::read::byte;
+use reader::read::count16;
+use reader::read::half;
+use reader::read::known8;
+use reader::read::known16;
+use reader::read::word;
+use reader::read::word_if;
+use reg_matrix::ValueSegment;
+
+// A segment with the position after it, or a refusal's number.
+pub enum SegmentRead {
+    Is(ValueSegment, usize),
+    Refused(u8),
+}
+
+// A hint with the position after it, or a refusal's number.
+pub enum HintRead {
+    Is(Hint, usize),
+    Refused(u8),
+}
+
+// What stands before a virtual register's hints with the position after it, or a refusal's number.
+pub enum FieldsRead {
+    Is(VirtRegFields, usize),
+    Refused(u8),
+}
+
+// A virtual register's fields, how many hints and segments it has, and the position after it; or a refusal's number.
+pub enum VirtRead {
+    Is(VirtRegFields, u64, u64, usize),
+    Refused(u8),
+}
+
+// How many hints and segments the virtual registers have, and the position after them; or a refusal's number.
+pub enum VirtsRead {
+    Is(u64, u64, usize),
+    Refused(u8),
+}
+
+// The segment at `at`, after one that ends at `past`.
+fn segment(s: &[u8], at: usize, past: u32) -> SegmentRead
+    ensures { λ r. ⌜ segmentView (now (s .entry)) r ≡ rangeOf past (little 2) (drop at (now (s .entry))) ⌝ }
+{
+    let Read::Value(a, at1) = word(s, at) else {
+        return SegmentRead::Refused(1);
+    };
+    let Read::Value(b, at2) = word(s, at1) else {
+        return SegmentRead::Refused(1);
+    };
+    let Read::Value(x, next) = half(s, at2) else {
+        return SegmentRead::Refused(1);
+    };
+    if b <= a {
+        return SegmentRead::Refused(5);
+    }
+    if a % 4 == 3 {
+        return SegmentRead::Refused(6);
+    }
+    if b % 4 == 3 {
+        return SegmentRead::Refused(6);
+    }
+    if a < past as u64 {
+        return SegmentRead::Refused(7);
+    }
+    SegmentRead::Is(
+        ValueSegment {
+            from: a as u32,
+            to: b as u32,
+            value: x as u16,
+        },
+        next,
+    )
+}
+
+// The next `count` segments of one virtual register, stored from place g on.
+fn segments(
+    s: &[u8],
+    start: usize,
+    count: usize,
+    g: usize,
+    froms: &mut [u32],
+    tos: &mut [u32],
+    values: &mut [u16],
+) -> Next
+    requires { ⌜ g + count ≤ 512 ⌝ }
+    ensures { λ r. ⌜ Outcome (now (s .entry)) (each segmentOf count [] (drop start (now (s .entry)))) r (SegmentsAt g (now (froms .entry)) (now (tos .entry)) (now (values .entry)) (now (froms .exit)) (now (tos .exit)) (now (values .exit))) ⌝ }
+{
+    let mut at = start;
+    let mut past: u32 = 0;
+    let mut i = 0;
+    while i < count {
+        match segment(s, at, past) {
+            SegmentRead::Refused(n) => {
+                return Next::Refused(n);
+            }
+            SegmentRead::Is(seg, next) => {
+                put32(froms, g + i, seg.from);
+                put32(tos, g + i, seg.to);
+                put16(values, g + i, seg.value);
+                past = seg.to;
+                at = next;
+            }
+        }
+        i += 1;
+    }
+    Next::At(at)
+}
+
+// How many segments the virtual register has, after `earlier` of the job.
+fn segment_count(s: &[u8], at: usize, earlier: u64) -> Number
+    requires { ⌜ earlier ≤ 512 ⌝ }
+    ensures { λ r. ⌜ Num (now (s .entry)) at (segmentCount earlier) (512 - earlier) r ⌝ }
+{
+    let Read::Value(k, next) = half(s, at) else {
+        return Number::Refused(1);
+    };
+    if 512 - earlier < k {
+        return Number::Refused(4);
+    }
+    if k == 0 {
+        return Number::Refused(5);
+    }
+    Number::Is(k, next)
+}
+
+// The segments: how many, and the position after them.
+fn segment_table(
+    s: &[u8],
+    at: usize,
+    g: u64,
+    froms: &mut [u32],
+    tos: &mut [u32],
+    values: &mut [u16],
+) -> Number
+    requires { ⌜ g ≤ 512 ⌝ }
+    ensures { λ r. ⌜ Counted (now (s .entry)) (segmentsOf g (drop at (now (s .entry)))) length (512 - g) r (SegmentsAt g (now (froms .entry)) (now (tos .entry)) (now (values .entry)) (now (froms .exit)) (now (tos .exit)) (now (values .exit))) ⌝ }
+{
+    match segment_count(s, at, g) {
+        Number::Refused(n) => Number::Refused(n),
+        Number::Is(k, at1) => {
+            match segments(s, at1, k as usize, g as usize, froms, tos, values) {
+                Next::Refused(n) => Number::Refused(n),
+                Next::At(next) => Number::Is(k, next),
+            }
+        }
+    }
+}
+
+// How many hints the virtual register has, after `earlier` of the job.
+fn hint_count(s: &[u8], at: usize, earlier: u64) -> Number
+    requires { ⌜ earlier ≤ 1024 ⌝ }
+    ensures { λ r. ⌜ Num (now (s .entry)) at (hintCount earlier) (1024 - earlier) r ⌝ }
+{
+    let Read::Value(k, next) = byte(s, at) else {
+        return Number::Refused(1);
+    };
+    if 64 < k {
+        return Number::Refused(4);
+    }
+    if 1024 < earlier + k {
+        return Number::Refused(4);
+    }
+    if k == 0 {
+        return Number::Refused(5);
+    }
+    Number::Is(k, next)
+}
+
+// The hint at `at`, of one of `regs` registers. The greatest bits of a finite weight are those before infinity's.
+fn hint(s: &[u8], at: usize, regs: u64) -> HintRead
+    ensures { λ r. ⌜ hintView (now (s .entry)) r ≡ hintOf regs (drop at (now (s .entry))) ⌝ }
+{
+    let Read::Value(r, at1) = byte(s, at) else {
+        return HintRead::Refused(1);
+    };
+    let Read::Value(w, next) = word(s, at1) else {
+        return HintRead::Refused(1);
+    };
+    if regs <= r {
+        return HintRead::Refused(8);
+    }
+    if 0x7F80_0000 <= w {
+        return HintRead::Refused(9);
+    }
+    HintRead::Is(
+        Hint {
+            reg: r as u8,
+            weight: f32::from_bits(w as u32),
+        },
+        next,
+    )
+}
+
+// The next `count` hints of one virtual register, stored from place h on.
+fn hints(
+    s: &[u8],
+    start: usize,
+    count: usize,
+    regs: u64,
+    h: usize,
+    owners: &mut [u8],
+    weights: &mut [f32],
+) -> Next
+    requires { ⌜ h + count ≤ 1024 ⌝ }
+    ensures { λ r. ⌜ Outcome (now (s .entry)) (each (λ before. hintOf regs) count [] (drop start (now (s .entry)))) r (HintsAt h (now (owners .entry)) (now (weights .entry)) (now (owners .exit)) (now (weights .exit))) ⌝ }
+{
+    let mut at = start;
+    let mut i = 0;
+    while i < count {
+        match hint(s, at, regs) {
+            HintRead::Refused(n) => {
+                return Next::Refused(n);
+            }
+            HintRead::Is(x, next) => {
+                put8(owners, h + i, x.reg);
+                put_float(weights, h + i, x.weight);
+                at = next;
+            }
+        }
+        i += 1;
+    }
+    Next::At(at)
+}
+
+// The hints where bit 4 of `m` stands: how many, and the position after them.
+fn hint_table(
+    s: &[u8],
+    at: usize,
+    m: u8,
+    regs: u64,
+    h: u64,
+    owners: &mut [u8],
+    weights: &mut [f32],
+) -> Number
+    requires { ⌜ h ≤ 1024 ⌝ }
+    ensures { λ r. ⌜ Counted (now (s .entry)) (ifBit (eqb (m / 16 % 2) 1) [] (hintsOf regs h) (drop at (now (s .entry)))) length (1024 - h) r (HintsAt h (now (owners .entry)) (now (weights .entry)) (now (owners .exit)) (now (weights .exit))) ⌝ }
+{
+    if m / 16 % 2 == 1 {
+        match hint_count(s, at, h) {
+            Number::Refused(n) => Number::Refused(n),
+            Number::Is(k, at1) => {
+                match hints(s, at1, k as usize, regs, h as usize, owners, weights) {
+                    Next::Refused(n) => Number::Refused(n),
+                    Next::At(next) => Number::Is(k, next),
+                }
+            }
+        }
+    } else {
+        Number::Is(0, at)
+    }
+}
+
+// The class where bit 0 of `m` stands, and 0 elsewhere.
+fn class_field(s: &[u8], at: usize, m: u64, classes: u64) -> Number
+    ensures { λ r. ⌜ Num (now (s .entry)) at (ifBit (eqb (m / 1 % 2) 1) 0 (known 1 classes)) classes r ⌝ }
+{
+    if m / 1 % 2 == 1 {
+        known8(s, at, classes)
+    } else {
+        Number::Is(0, at)
+    }
+}
+
+// The set where bit 1 of `m` stands, and the number of its own elsewhere.
+fn set_field(s: &[u8], at: usize, m: u64, own: u16) -> Number
+    ensures { λ r. ⌜ Num (now (s .entry)) at (ifBit (eqb (m / 2 % 2) 1) own (known 2 512)) 65535 r ⌝ }
+{
+    if m / 2 % 2 == 1 {
+        known16(s, at, 512)
+    } else {
+        Number::Is(own as u64, at)
+    }
+}
+
+// The bits of a spill weight where bit 2 of `m` stands, and 0 elsewhere. Past infinity's bits are NaN's, then those with a sign.
+fn spill_field(s: &[u8], at: usize, m: u64) -> Number
+    ensures { λ r. ⌜ Num (now (s .entry)) at (ifBit (eqb (m / 4 % 2) 1) 0 spillBits) 2139095040 r ⌝ }
+{
+    if m / 4 % 2 == 1 {
+        let Read::Value(v, next) = word(s, at) else {
+            return Number::Refused(1);
+        };
+        if 0x7F80_0000 < v {
+            return Number::Refused(9);
+        }
+        Number::Is(v, next)
+    } else {
+        Number::Is(0, at)
+    }
+}
+
+// The class is absent, and there is none.
+fn no_class(m: u64, classes: u64) -> bool
+    ensures { λ r. ⌜ r ≡ (not (eqb (m / 1 % 2) 1) && eqb classes 0) ⌝ }
+{
+    if m / 1 % 2 == 1 { false } else { classes == 0 }
+}
+
+// What stands before the hints of the virtual register `n`.
+fn virt_fields(s: &[u8], at: usize, classes: u64, n: u16) -> FieldsRead
+    requires { ⌜ classes ≤ 255 ⌝ }
+    ensures { λ r. ⌜ fieldsView (now (s .entry)) r ≡ virtRegFields classes n (drop at (now (s .entry))) ⌝ }
+{
+    let Read::Value(m, at1) = byte(s, at) else {
+        return FieldsRead::Refused(1);
+    };
+    if 64 <= m {
+        return FieldsRead::Refused(3);
+    }
+    if m / 32 % 2 != 1 {
+        return FieldsRead::Refused(5);
+    }
+    if no_class(m, classes) {
+        return FieldsRead::Refused(8);
+    }
+    match class_field(s, at1, m, classes) {
+        Number::Refused(k) => FieldsRead::Refused(k),
+        Number::Is(c, at2) => match set_field(s, at2, m, n) {
+            Number::Refused(k) => FieldsRead::Refused(k),
+            Number::Is(t, at3) => match spill_field(s, at3, m) {
+                Number::Refused(k) => FieldsRead::Refused(k),
+                Number::Is(w, at4) => {
+                    let Read::Value(z, next) = word_if(s, at4, m / 8 % 2 == 1, 0) else {
+                        return FieldsRead::Refused(1);
+                    };
+                    FieldsRead::Is(
+                        VirtRegFields {
+                            map: m as u8,
+                            class: c as u8,
+                            value_set: t as u16,
+                            spill_weight: f32::from_bits(w as u32),
+                            size: z as u32,
+                        },
+                        next,
+                    )
+                }
+            },
+        },
+    }
+}
+
+// The virtual register `n`, after h hints and g segments of the job.
+fn virt_reg(
+    s: &[u8],
+    at: usize,
+    regs: u64,
+    classes: u64,
+    n: u16,
+    h: u64,
+    g: u64,
+    owners: &mut [u8],
+    weights: &mut [f32],
+    froms: &mut [u32],
+    tos: &mut [u32],
+    values: &mut [u16],
+) -> VirtRead
+    requires { ⌜ (classes ≤ 255) × (h ≤ 1024) × (g ≤ 512) ⌝ }
+    ensures { λ r. ⌜ VirtOut (now (s .entry)) (virtRegAt regs classes n h g (drop at (now (s .entry)))) h g r (HintsAt h (now (owners .entry)) (now (weights .entry)) (now (owners .exit)) (now (weights .exit))) (SegmentsAt g (now (froms .entry)) (now (tos .entry)) (now (values .entry)) (now (froms .exit)) (now (tos .exit)) (now (values .exit))) ⌝ }
+{
+    match virt_fields(s, at, classes, n) {
+        FieldsRead::Refused(k) => VirtRead::Refused(k),
+        FieldsRead::Is(f, at1) => match hint_table(s, at1, f.map, regs, h, owners, weights) {
+            Number::Refused(k) => VirtRead::Refused(k),
+            Number::Is(hn, at2) => match segment_table(s, at2, g, froms, tos, values) {
+                Number::Refused(k) => VirtRead::Refused(k),
+                Number::Is(gn, next) => VirtRead::Is(f, hn, gn, next),
+            },
+        },
+    }
+}
+
+// Stores the fields of the virtual register `i`.
+fn put_fields(
+    f: VirtRegFields,
+    i: usize,
+    kinds: &mut [u8],
+    groups: &mut [u16],
+    spills: &mut [f32],
+    sizes: &mut [u32],
+)
+    ensures { λ r. ⌜ FieldsAt f i (now (kinds .entry)) (now (groups .entry)) (now (spills .entry)) (now (sizes .entry)) (now (kinds .exit)) (now (groups .exit)) (now (spills .exit)) (now (sizes .exit)) ⌝ }
+{
+    put8(kinds, i, f.class);
+    put16(groups, i, f.value_set);
+    put_float(spills, i, f.spill_weight);
+    put32(sizes, i, f.size);
+}
+
+// The virtual registers: their fields, where the hints and the segments of each begin and where the last end, the hints and the segments of all.
+pub fn virt_regs(
+    s: &[u8],
+    start: usize,
+    count: u16,
+    regs: u8,
+    classes: u8,
+    kinds: &mut [u8],
+    groups: &mut [u16],
+    spills: &mut [f32],
+    sizes: &mut [u32],
+    hfirsts: &mut [u16],
+    owners: &mut [u8],
+    weights: &mut [f32],
+    gfirsts: &mut [u16],
+    froms: &mut [u32],
+    tos: &mut [u32],
+    values: &mut [u16],
+) -> VirtsRead
+    ensures { λ r. ⌜ VirtsOut (now (s .entry)) (each (virtRegAfter regs classes) count [] (drop start (now (s .entry)))) r (VirtsAt (now (kinds .entry)) (now (groups .entry)) (now (spills .entry)) (now (sizes .entry)) (now (hfirsts .entry)) (now (gfirsts .entry)) (now (kinds .exit)) (now (groups .exit)) (now (spills .exit)) (now (sizes .exit)) (now (hfirsts .exit)) (now (gfirsts .exit))) (HintsAt 0 (now (owners .entry)) (now (weights .entry)) (now (owners .exit)) (now (weights .exit))) (SegmentsAt 0 (now (froms .entry)) (now (tos .entry)) (now (values .entry)) (now (froms .exit)) (now (tos .exit)) (now (values .exit))) ⌝ }
+{
+    put16(hfirsts, 0, 0);
+    put16(gfirsts, 0, 0);
+    let mut at = start;
+    let mut h: u64 = 0;
+    let mut g: u64 = 0;
+    let mut i: usize = 0;
+    while i < count as usize {
+        match virt_reg(
+            s,
+            at,
+            regs as u64,
+            classes as u64,
+            i as u16,
+            h,
+            g,
+            owners,
+            weights,
+            froms,
+            tos,
+            values,
+        ) {
+            VirtRead::Refused(n) => {
+                return VirtsRead::Refused(n);
+            }
+            VirtRead::Is(f, hn, gn, next) => {
+                put_fields(f, i, kinds, groups, spills, sizes);
+                h = h + hn;
+                g = g + gn;
+                put16(hfirsts, i + 1, h as u16);
+                put16(gfirsts, i + 1, g as u16);
+                at = next;
+            }
+        }
+        i += 1;
+    }
+    VirtsRead::Is(h, g, at)
+}
+
+// How many virtual registers, hints and segments there are, and the position after them; or a refusal's number.
+pub enum VirtTable {
+    Is(u16, u64, u64, usize),
+    Refused(u8),
+}
+
+// The virtual registers where their bit stands.
+pub fn virt_table(
+    s: &[u8],
+    at: usize,
+    stands: bool,
+    regs: u8,
+    classes: u8,
+    kinds: &mut [u8],
+    groups: &mut [u16],
+    spills: &mut [f32],
+    sizes: &mut [u32],
+    hfirsts: &mut [u16],
+    owners: &mut [u8],
+    weights: &mut [f32],
+    gfirsts: &mut [u16],
+    froms: &mut [u32],
+    tos: &mut [u32],
+    values: &mut [u16],
+) -> VirtTable
+    ensures { λ r. ⌜ TableOut (now (s .entry)) (tableOf stands 2 512 (virtRegAfter regs classes) (drop at (now (s .entry)))) r (VirtsAt (now (kinds .entry)) (now (groups .entry)) (now (spills .entry)) (now (sizes .entry)) (now (hfirsts .entry)) (now (gfirsts .entry)) (now (kinds .exit)) (now (groups .exit)) (now (spills .exit)) (now (sizes .exit)) (now (hfirsts .exit)) (now (gfirsts .exit))) (HintsAt 0 (now (owners .entry)) (now (weights .entry)) (now (owners .exit)) (now (weights .exit))) (SegmentsAt 0 (now (froms .entry)) (now (tos .entry)) (now (values .entry)) (now (froms .exit)) (now (tos .exit)) (now (values .exit))) ⌝ }
+{
+    match count16(s, at, stands, 512) {
+        Number::Refused(n) => VirtTable::Refused(n),
+        Number::Is(k, at1) => match virt_regs(
+            s,
+            at1,
+            k as u16,
+            regs,
+            classes,
+            kinds,
+            groups,
+            spills,
+            sizes,
+            hfirsts,
+            owners,
+            weights,
+            gfirsts,
+            froms,
+            tos,
+            values,
+        ) {
+            VirtsRead::Refused(n) => VirtTable::Refused(n),
+            VirtsRead::Is(h, g, next) => VirtTable::Is(k as u16, h, g, next),
+        },
+    }
+}

@@ -1,0 +1,52 @@
+-- The invariant: the places from here on are the rest of the whole.
+use borrow.Author.Needs.{needs}
+use Prim.Native.Nat.{_-_}
+use mathlib.Core.Path.{_≡_, refl, sym, _∙_}
+use lib.Dec.{eqb}
+use lib.ListN.{getD}
+use borrow.Author.Tests.{eq-eqb, ne-eqb}
+use Rattle.reg_matrix.specs.Lists.{any, count}
+use Rattle.job_tests.proofs.Places.{any-more, any-end}
+use Rattle.job_tests.proofs.tests.map_among.Statement.{statement}
+use Rattle.job_tests.proofs.tests.map_among.Tie as tie
+
+abbrev Inv-loop : tie.InvT-loop
+Inv-loop maps from to x k₀ k = any (λ j. eqb x (getD maps j 0)) (count from (to - from)) ≡ any (λ j. eqb x (getD maps j 0)) (count k (to - k))
+
+abbrev μ-loop : tie.MeasureT-loop
+μ-loop maps from to x k₀ k = to - k
+
+loop-holds : tie.Need-loop-holds Inv-loop μ-loop
+loop-holds c = refl
+
+at-requires : tie.Need-at-requires Inv-loop μ-loop
+at-requires c κs = search needs
+
+returns : tie.Need-returns Inv-loop μ-loop
+returns c = sym (c .before .before .before .loop .inv ∙ any-more _ (c .before .before .before .before .before .args .to) (c .before .before .before .loop .k) (c .before .before .loop-test .taken) ∙ rw (eq-eqb _ _ (c .if1 .taken ∙ c .before .at .ensures)))
+
+add-k : tie.Need-add-k Inv-loop μ-loop
+add-k c = search needs
+
+loop-less : tie.Need-loop-less Inv-loop μ-loop
+loop-less c = search needs
+
+loop-again : tie.Need-loop-again Inv-loop μ-loop
+loop-again c = c .before .before .before .loop .inv ∙ any-more _ (c .before .before .before .before .before .args .to) (c .before .before .before .loop .k) (c .before .before .loop-test .taken) ∙ rw (ne-eqb _ _ (λ e. c .if1 .left (e ∙ sym (c .before .at .ensures))))
+
+returns-2 : tie.Need-returns-2 Inv-loop μ-loop
+returns-2 c = sym (c .before .loop .inv ∙ any-end _ (c .before .before .before .args .to) (c .before .loop .k) (c .loop-test .left))
+
+pub map-among-spec : {M : Type 1} → statement M
+map-among-spec =
+    tie.close
+    (tie.spec
+    Inv-loop
+    μ-loop
+    loop-holds
+    at-requires
+    returns
+    add-k
+    loop-less
+    loop-again
+    returns-2)

@@ -1,0 +1,5 @@
+pub mod Answers
+pub mod Reading
+pub mod Stores
+pub mod Tables
+pub mod Starts
