@@ -60,6 +60,12 @@ evict-long {v = v} {m = m} {uses = uses} {ts = ts} {w = w} e =
 
 -- ---- what is said of the fields that were taken apart is said of the segments
 
+-- a position is entered by the first start alone
+first-start : (ends : List ℕ) (units : ℕ) (full : Bool) (ys : List ValueSegment) → entered ends (fromsOf (take maxSegments ys)) units full ≡ entered ends (fromsOf ys) units full
+unfolding entered
+first-start ends units full [] = refl
+first-start ends units full (y ∷ ys) = refl
+
 module _ (ys : List ValueSegment) (f : Fields) (e : f ≡ takenApart noFields ys) where
   froms-told : fromsIn f ≡ fromsOf (take maxSegments ys)
   froms-told = ap fromsIn e ∙ froms-apart ys
@@ -80,6 +86,9 @@ module _ (ys : List ValueSegment) (f : Fields) (e : f ≡ takenApart noFields ys
   pub next-told : {ends rests uses : List ℕ} {c : Cursor} {r : Step} → Answered (lent ends rests uses (fromsIn f) (tosIn f) (valuesIn f)) c r
       → Answered (lent ends rests uses (fromsOf (take maxSegments ys)) (tosOf (take maxSegments ys)) (valuesOf (take maxSegments ys))) c r
   next-told = answered-at froms-told tos-told values-told
+
+  pub enter-told : (ends : List ℕ) (units : ℕ) (full : Bool) {r : Cursor} → r ≡ entered ends (fromsIn f) units full → r ≡ entered ends (fromsOf ys) units full
+  enter-told ends units full p = p ∙ ap (λ (fs : List ℕ). entered ends fs units full) froms-told ∙ first-start ends units full ys
 
   module _ (regs : List ℕ) (count reg : ℕ) (full : Bool) (ends rests uses : List ℕ) where
     abbrev Answer : Bool → List ℕ → List ℕ → List ℕ → Start

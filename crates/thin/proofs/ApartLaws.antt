@@ -1,12 +1,12 @@
 -- Taking segments apart, and what stands in the three lists of fields afterwards: the fields of the first 512 segments. Assumes nothing.
-use Prim.Native.Nat.{ℕ, zero, suc, _+_, _-_, _≤_, _<_}
+use Prim.Native.Nat.{ℕ, suc, _+_, _-_, _≤_, _<_}
 use native.Mathlib.Omega.{arith}
 use native.Mathlib.Numerals.{add-one}
 use mathlib.Core.Path.{_≡_, refl, sym, _∙_, ap, subst}
 use mathlib.Core.List.{List, [], _∷_, _++_, map, append-nil}
 use mathlib.Core.Bool.{Bool, true, false}
 use lib.Dec.{ltb}
-use lib.ListN.{length, take, set, replicate, length-set, length-replicate}
+use lib.ListN.{length, take, set, length-set, length-replicate}
 use lib.Seq.{take-nil, take-suc-set, append-snoc}
 use borrow.Author.Tests.{ltb-true, ltb-false, lt-ltb, le-ltb}
 use Rattle.reg_matrix.specs.declared.ValueSegment.{ValueSegment}

@@ -2,10 +2,11 @@
 ghost use mathlib.Core.Path.{_≡_};
 ghost use lib.Dec.{ltb};
 ghost use lib.ListN.{length, take};
-ghost use Rattle.matrix.specs.Walk.{Answered, lent};
+ghost use Rattle.matrix.specs.Walk.{Answered, lent, entered};
 ghost use Rattle.thin.specs.Apart.{maxSegments, fromsOf, tosOf, valuesOf};
 ghost use Rattle.thin.specs.Answers.{checkAnswer};
 use crate::covered::check_fields;
+use crate::covered::enter_fields;
 use crate::covered::next_in_fields;
 use crate::taking::take_apart;
 use matrix::Cursor;
@@ -38,6 +39,14 @@ pub fn check_interference(
         rests,
         uses,
     )
+}
+
+// The position at the lowest unit of a map: its first entry that ends past the first segment's start. It asks nothing of what is lent: without
+// segments the start is 0.
+pub fn enter(segments: &[ValueSegment], ends: &[u64], units: u64, full: bool) -> Cursor
+    ensures { λ r. ⌜ r ≡ entered (now (ends .entry)) (fromsOf (now (segments .entry))) units full ⌝ }
+{
+    enter_fields(take_apart(segments), ends, units, full)
 }
 
 // The next report from this position on, with the position after it, or the check's end. It asks nothing of what is lent: of more than 512

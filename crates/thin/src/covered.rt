@@ -1,7 +1,7 @@
 // The calls of crate matrix on segments that are taken apart. No function here has a slice of structs, so the borrow checker covers each.
 ghost use mathlib.Core.Path.{_≡_};
 ghost use Rattle.matrix.specs.Moves.{words};
-ghost use Rattle.matrix.specs.Walk.{Answered, lent};
+ghost use Rattle.matrix.specs.Walk.{Answered, lent, entered};
 ghost use Rattle.thin.specs.Answers.{checkAnswer, AssignAnswer, EvictAnswer};
 ghost use Rattle.thin.specs.Apart.{fromsIn, tosIn, valuesIn};
 use crate::Fields;
@@ -46,6 +46,15 @@ pub fn check_fields(
         part32(&tos, 0, n),
         part16(&values, 0, n),
     )
+}
+
+// The position at the lowest unit of a map, for segments that are taken apart.
+pub fn enter_fields(f: Fields, ends: &[u64], units: u64, full: bool) -> Cursor
+    ensures { λ r. ⌜ r ≡ entered (now (ends .entry)) (fromsIn f) units full ⌝ }
+{
+    let n = f.count;
+    let froms = f.froms;
+    check::enter(ends, part32(&froms, 0, n), units, full)
 }
 
 // The next report on segments that are taken apart.
