@@ -1,0 +1,4 @@
+pub mod ApartLaws
+pub mod AnswerLaws
+pub mod Calling
+pub mod Moving
