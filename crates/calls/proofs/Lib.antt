@@ -3,3 +3,4 @@ pub mod DirectLaws
 pub mod Traces
 pub mod RunCalls
 pub mod QuestionLaws
+pub mod StageLoads

@@ -2,3 +2,4 @@ pub mod Testing
 pub mod Calling
 pub mod Trace
 pub mod Asking
+pub mod StageLoading

@@ -132,7 +132,7 @@ later j b =
     (endWords (freshTable (j .fixed)) ++ drop maxEntries (b .ends))
     (restWords (freshTable (j .fixed)) ++ drop maxEntries (b .rests))
 
-abbrev LoadParts : Lent → Lent → Loaded → JobLoaded → Type 0
+abbrev pub LoadParts : Lent → Lent → Loaded → JobLoaded → Type 0
 LoadParts b b′ (notLoaded n) r = (r ≡ Refused n) × (b′ ≡ b)
 LoadParts b b′ (loaded j) r = (r ≡ Is (headerOf j)) × (b′ ≡ later j b)
 
