@@ -22,7 +22,7 @@ use types.Kit.{Given, Item, ‵, raw, atRet, _⊛_, some, later, ⋆, _$_, _∵_
 use types.Part.{agg, whole, sub, look-in}
 use types.Run.{look, exec, init, forget, stop, hop, fld, from, load, addr, and-then, no-more, assigns, land, returns, enter, alloc1, alloc0, params1, pass1, pass0, free1, free0}
 use denote.Exit.{yes}
-use denote.RattleType.{RattleType, owns}
+use denote.RattleType.{owns}
 use denote.Laws.{Is, shows}
 use denote.Plain.{uint-vals, uint-tells}
 use denote.Ref.{RefT, now}
@@ -47,13 +47,10 @@ use Rattle.matrix.proofs.Moved as E
 use Rattle.matrix.proofs.Moved.Laws as E′
 use Rattle.thin.proofs.Fields as T
 use Rattle.thin.proofs.Fields.Laws as T′
-use Rattle.thin.proofs.Calling.{R, segmentSlice, TakeApart, segments, Own, to-apart, goes-apart, Ensured, said-apart}
+use Rattle.thin.proofs.Calling.{R, F, segmentSlice, TakeApart, segments, Own, to-apart, goes-apart, answered}
 use Rattle.thin.proofs.taking.take_apart.Symbol.{name as #take-apart}
 use Rattle.thin.proofs.covered.assign_fields as covered
 use Rattle.thin.proofs.assign.assign as fun
-
-abbrev F : RattleType
-F = T.the-row
 
 -- the MIR types of the table's slices, as passed and as passed on, and of the fixed uses
 abbrev lent : ℕ → Ty
@@ -194,9 +191,7 @@ module _ (key : Name) (Heard : Fields → ℕ → ℕ → List ℕ → Words →
               -- [the token; what the slice owns; the other tokens; what is passed on; _11; …; _0; …]
               use2 W (raw (TakeApart 𝓤 H A mem run .pre (to-apart 𝓤 H A mem run κ q b o γ ys))) (goes-apart 𝓤 H A mem run κ q b o γ ys W) $
               calls-at ! (fmOf 𝓤 H (W .laws) 𝓣) (TakeApart 𝓤 H A mem run) known-apart (to-apart 𝓤 H A mem run κ q b o γ ys) (and-then ! (load ! (from ! (stop !)) (look ! 23 refl)) (no-more !)) (λ u.
-              use1 W (later (some (λ (f : Fields). ((‵ (flft κ q) ⊛ ‵ ftrue) ⊛ ‵ (F .own f (u ∷ []))) ⊛ raw (Ensured 𝓤 H A mem run κ q b o γ ys f)))) (id⊢ 𝓤 _) $ await ! tt $ pick ! (λ f.
-              split ! $ move ! (1 ∷ []) $ use1 W (raw (fact 𝓤 (f ≡ takenApart noFields ys))) (said-apart 𝓤 H A mem run κ q b o γ ys f) $ heard ! (f ≡ takenApart noFields ys) (λ ea.
-              split ! $ move ! (1 ∷ []) $ peeks ! F (Is F) (shows 𝓤 H A F) f (u ∷ []) (λ isf.
+              answered 𝓤 H A mem run κ q b o γ ys ! tt u (λ f ea isf.
               -- [what the fields own; the token; the other tokens; what is passed on; _11; …]
               land ! (from ! (stop !)) (init ! 12 refl (LL.lawful T.the-type T′.the-laws 𝓤 H A W .typed f (u ∷ []) isf .0)) $
               assigns ! (addr ! (from ! (fld ! refl (hop ! (look-in ! 22 (sub ! 0 refl (whole !))) (stop !))))) (from ! (stop !)) (init ! 10 refl (tt, tt)) $
@@ -222,7 +217,7 @@ module _ (key : Name) (Heard : Fields → ℕ → ℕ → List ℕ → Words →
               move ! (29 ∷ 30 ∷ []) $ free1 ! $ move ! (27 ∷ 28 ∷ []) $ free1 ! $ move ! (25 ∷ 26 ∷ []) $ free1 ! $ move ! (23 ∷ 24 ∷ []) $ free1 ! $ move ! (21 ∷ 22 ∷ []) $ free1 ! $
               move ! (19 ∷ 20 ∷ []) $ free1 ! $ move ! (17 ∷ 18 ∷ []) $ free1 ! $ move ! (15 ∷ 16 ∷ []) $ free1 ! $ move ! (13 ∷ 14 ∷ []) $ free1 ! $ move ! (11 ∷ 12 ∷ []) $ free1 ! $
               move ! (9 ∷ 10 ∷ []) $ free1 ! $ move ! (7 ∷ 8 ∷ []) $ free1 ! $ free0 ! $
-              keep ! (0 ∷ 1 ∷ 6 ∷ 4 ∷ 2 ∷ []) $ by ! (exits r w (zs .1 .0) (zs .1 .1 .0) (told ys f ea v m (now uses) table (words (zs .1 .0) (zs .1 .1 .0)) r e) le lr))))))))))))
+              keep ! (0 ∷ 1 ∷ 6 ∷ 4 ∷ 2 ∷ []) $ by ! (exits r w (zs .1 .0) (zs .1 .1 .0) (told ys f ea v m (now uses) table (words (zs .1 .0) (zs .1 .1 .0)) r e) le lr))))))))))
 
         abbrev args : List Val
         args = sliceVal (b, o) n ∷ sv ends ∷ sv rests ∷ sv uses ∷ vint w16 v ∷ vint w64 m ∷ []

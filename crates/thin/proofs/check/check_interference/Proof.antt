@@ -23,7 +23,7 @@ use sound.WpLaws.{fmOf, WpFn-mono}
 use types.Kit.{Given, Item, ‵, raw, atRet, _⊛_, some, later, ⋆, _$_, _∵_, !, qed, by, move, use1, use2, split, join, pick, fsplit, fjoin, suffices, frame, await, done}
 use types.Run.{look, exec, init, forget, stop, from, load, and-then, no-more, land, returns, enter, alloc1, alloc0, params1, pass1, pass0, free1, free0}
 use denote.Exit.{yes}
-use denote.RattleType.{RattleType, owns}
+use denote.RattleType.{owns}
 use denote.Laws.{Is, shows}
 use denote.Plain.{uint-vals, uint-tells, bool-vals, bool-tells}
 use denote.Ref.{RefT, now}
@@ -49,7 +49,7 @@ use Rattle.matrix.proofs.Start as E
 use Rattle.matrix.proofs.Start.Laws as E′
 use Rattle.thin.proofs.Fields as T
 use Rattle.thin.proofs.Fields.Laws as T′
-use Rattle.thin.proofs.Calling.{R, segmentSlice, TakeApart, segments, Own, to-apart, goes-apart, Ensured, said-apart}
+use Rattle.thin.proofs.Calling.{R, F, segmentSlice, TakeApart, segments, Own, to-apart, goes-apart, answered}
 use Rattle.thin.proofs.AnswerLaws.{check-told}
 use Rattle.thin.proofs.taking.take_apart.Symbol as apart-def
 use Rattle.thin.proofs.taking.take_apart.Symbol.{name as #take-apart}
@@ -62,9 +62,6 @@ use Rattle.thin.proofs.check.check_interference.Key.{name as #check-int
 use Rattle.thin.proofs.check.check_interference as fun
 use Rattle.thin.proofs.check.check_interference.Statement as stated
 use Rattle.thin.proofs.check.check_interference.Code as code
-
-abbrev F : RattleType
-F = T.the-row
 
 abbrev words : ℕ → Ty
 words j = sliceTy (tyRef (named j) imm (tyInt w64))
@@ -173,9 +170,7 @@ module _ {M : Type 1} (𝓤 : URA M) (H : Heap 𝓤) (A : Atoms 𝓤) (W : Given
         -- [the token; what the slice owns; the other tokens; what is passed on; _9; …; _0; …]
         use2 W (raw (TakeApart 𝓤 H A mem run .pre (to-apart 𝓤 H A mem run κ q b o γ ys))) (goes-apart 𝓤 H A mem run κ q b o γ ys W) $
         calls-at ! (fmOf 𝓤 H (W .laws) 𝓣) (TakeApart 𝓤 H A mem run) known-apart (to-apart 𝓤 H A mem run κ q b o γ ys) (and-then ! (load ! (from ! (stop !)) (look ! 19 refl)) (no-more !)) (λ v.
-        use1 W (later (some (λ (f : Fields). ((‵ (flft κ q) ⊛ ‵ ftrue) ⊛ ‵ (F .own f (v ∷ []))) ⊛ raw (Ensured 𝓤 H A mem run κ q b o γ ys f)))) (id⊢ 𝓤 _) $ await ! tt $ pick ! (λ f.
-        split ! $ move ! (1 ∷ []) $ use1 W (raw (fact 𝓤 (f ≡ takenApart noFields ys))) (said-apart 𝓤 H A mem run κ q b o γ ys f) $ heard ! (f ≡ takenApart noFields ys) (λ ea.
-        split ! $ move ! (1 ∷ []) $ peeks ! F (Is F) (shows 𝓤 H A F) f (v ∷ []) (λ isf.
+        answered 𝓤 H A mem run κ q b o γ ys ! tt v (λ f ea isf.
         -- [what the fields own; the token; the other tokens; what is passed on; _9; …]
         land ! (from ! (stop !)) (init ! 4 refl (LL.lawful T.the-type T′.the-laws 𝓤 H A W .typed f (v ∷ []) isf .0)) $
         move ! (0 ∷ 3 ∷ []) $ fjoin ! $ move ! (2 ∷ 0 ∷ []) $ use2 W (raw (Covered 𝓤 H A mem run .pre (to f v))) (goes f v) $
@@ -191,7 +186,7 @@ module _ {M : Type 1} (𝓤 : URA M) (H : Heap 𝓤) (A : Atoms 𝓤) (W : Given
         returns ! (look ! 21 refl) $ forget ! 3 refl $ forget ! 5 refl $ forget ! 7 refl $ forget ! 9 refl $ forget ! 11 refl $ forget ! 13 refl $ forget ! 15 refl $ forget ! 17 refl $ forget ! 19 refl $ forget ! 21 refl $
         move ! (21 ∷ 22 ∷ []) $ free1 ! $ move ! (19 ∷ 20 ∷ []) $ free1 ! $ move ! (17 ∷ 18 ∷ []) $ free1 ! $ move ! (15 ∷ 16 ∷ []) $ free1 ! $ move ! (13 ∷ 14 ∷ []) $ free1 ! $
         move ! (11 ∷ 12 ∷ []) $ free1 ! $ move ! (9 ∷ 10 ∷ []) $ free1 ! $ move ! (7 ∷ 8 ∷ []) $ free1 ! $ move ! (5 ∷ 6 ∷ []) $ free1 ! $ move ! (3 ∷ 4 ∷ []) $ free1 ! $ free0 ! $
-        by ! (exits r w (check-told ys f ea (now regs) count reg full (now ends) (now rests) (now uses) e))))))))))
+        by ! (exits r w (check-told ys f ea (now regs) count reg full (now ends) (now rests) (now uses) e))))))))
 
   abbrev args : List Val
   args = sliceVal (b, o) n ∷ sv regs ∷ vint w64 count ∷ vint w64 reg ∷ vbool full ∷ sv ends ∷ sv rests ∷ sv uses ∷ []
