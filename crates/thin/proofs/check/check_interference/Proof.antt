@@ -43,7 +43,7 @@ use denote.Triple.Walked.{says, Stays, stay-dropped, walkOf, Walks, ends-at, wal
 use Rattle.reg_matrix.specs.declared.ValueSegment.{ValueSegment}
 use Rattle.matrix.specs.declared.Start.{Start}
 use Rattle.thin.specs.declared.Fields.{Fields}
-use Rattle.thin.specs.Apart.{maxSegments, noFields, takenApart, fromsIn, tosIn, valuesIn, fromsOf, tosOf, valuesOf}
+use Rattle.thin.specs.Apart.{maxSegments, fromsIn, tosIn, valuesIn, fromsOf, tosOf, valuesOf}
 use Rattle.thin.specs.Answers.{checkAnswer}
 use Rattle.matrix.proofs.Start as E
 use Rattle.matrix.proofs.Start.Laws as E′

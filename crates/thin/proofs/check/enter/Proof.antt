@@ -42,7 +42,7 @@ use Rattle.reg_matrix.specs.declared.ValueSegment.{ValueSegment}
 use Rattle.matrix.specs.declared.Cursor.{Cursor}
 use Rattle.matrix.specs.Walk.{entered as positionAt}
 use Rattle.thin.specs.declared.Fields.{Fields}
-use Rattle.thin.specs.Apart.{noFields, takenApart, fromsIn, fromsOf}
+use Rattle.thin.specs.Apart.{fromsIn, fromsOf}
 use Rattle.matrix.proofs.Cursor as D
 use Rattle.matrix.proofs.Cursor.Laws as D′
 use Rattle.thin.proofs.Fields as T

@@ -43,7 +43,7 @@ use Rattle.matrix.specs.declared.Cursor.{Cursor}
 use Rattle.matrix.specs.declared.Step.{Step}
 use Rattle.matrix.specs.Walk.{Answered, lent}
 use Rattle.thin.specs.declared.Fields.{Fields}
-use Rattle.thin.specs.Apart.{maxSegments, noFields, takenApart, fromsIn, tosIn, valuesIn, fromsOf, tosOf, valuesOf}
+use Rattle.thin.specs.Apart.{maxSegments, fromsIn, tosIn, valuesIn, fromsOf, tosOf, valuesOf}
 use Rattle.matrix.proofs.Cursor as D
 use Rattle.matrix.proofs.Cursor.Laws as D′
 use Rattle.matrix.proofs.Step as E
