@@ -71,6 +71,7 @@ module _ {M : Type 1} (𝓤 : URA M) (H : Heap 𝓤) (A : Atoms 𝓤) (mem : Mem
           → ((f : Fields) → f ≡ takenApart noFields ys → Is F f (v ∷ []) → Seq K W (‵ (F .own f (v ∷ [])) ∷ (‵ (flft κ q) ⊛ ‵ ftrue) ∷ Γ) G)
           → Seq K W (raw (TakeApart .post to-apart v) ∷ Γ) G
       answered t z v k =
-          use1 W (later (some (λ (f : Fields). ((‵ (flft κ q) ⊛ ‵ ftrue) ⊛ ‵ (F .own f (v ∷ []))) ⊛ raw (Ensured f)))) (id⊢ 𝓤 _) $ await t z $ pick t (λ f.
+          use1 W (later (some (λ (f : Fields). ((‵ (flft κ q) ⊛ ‵ ftrue) ⊛ ‵ (F .own f (v ∷ []))) ⊛ raw (Ensured f)))) (id⊢ 𝓤 _) $ await t z $
+          pick t (λ f.
           split t $ move t (1 ∷ []) $ use1 W (raw (fact 𝓤 (f ≡ takenApart noFields ys))) (said-apart f) $ heard t (f ≡ takenApart noFields ys) (λ e.
           split t $ move t (1 ∷ []) $ peeks t F (Is F) (shows 𝓤 H A F) f (v ∷ []) (λ is. k f e is)))
