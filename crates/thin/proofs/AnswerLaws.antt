@@ -40,11 +40,13 @@ evicted-at {v} {m} {uses} {ts} {ts′} {w} {w′} {r} et p = subst (λ (t : List
 
 -- ---- where the segments have room, the answer is that of crate matrix
 
-pub assign-fits : {long : Bool} {v m : ℕ} {uses fs ts : List ℕ} {w w′ : Words} {r : Moved} → long ≡ false → Assigned v m uses fs ts w w′ r → AssignAnswer long v m uses fs ts w w′ r
+pub assign-fits : {long : Bool} {v m : ℕ} {uses fs ts : List ℕ} {w w′ : Words} {r : Moved} → long ≡ false → Assigned v m uses fs ts w w′ r
+    → AssignAnswer long v m uses fs ts w w′ r
 assign-fits {v = v} {m = m} {uses = uses} {fs = fs} {ts = ts} {w = w} {w′ = w′} {r = r} e p =
     subst (λ (b : Bool). AssignAnswer b v m uses fs ts w w′ r) (sym e) (record { answer = p .answer; after = p .after })
 
-pub evict-fits : {long : Bool} {v m : ℕ} {uses ts : List ℕ} {w w′ : Words} {r : Moved} → long ≡ false → Evicted v m uses ts w w′ r → EvictAnswer long v m uses ts w w′ r
+pub evict-fits : {long : Bool} {v m : ℕ} {uses ts : List ℕ} {w w′ : Words} {r : Moved} → long ≡ false → Evicted v m uses ts w w′ r
+    → EvictAnswer long v m uses ts w w′ r
 evict-fits {v = v} {m = m} {uses = uses} {ts = ts} {w = w} {w′ = w′} {r = r} e p =
     subst (λ (b : Bool). EvictAnswer b v m uses ts w w′ r) (sym e) (record { answer = p .answer; after = p .after })
 
@@ -61,7 +63,8 @@ evict-long {v = v} {m = m} {uses = uses} {ts = ts} {w = w} e =
 -- ---- what is said of the fields that were taken apart is said of the segments
 
 -- a position is entered by the first start alone
-first-start : (ends : List ℕ) (units : ℕ) (full : Bool) (ys : List ValueSegment) → entered ends (fromsOf (take maxSegments ys)) units full ≡ entered ends (fromsOf ys) units full
+first-start : (ends : List ℕ) (units : ℕ) (full : Bool) (ys : List ValueSegment)
+    → entered ends (fromsOf (take maxSegments ys)) units full ≡ entered ends (fromsOf ys) units full
 unfolding entered
 first-start ends units full [] = refl
 first-start ends units full (y ∷ ys) = refl
@@ -87,19 +90,23 @@ module _ (ys : List ValueSegment) (f : Fields) (e : f ≡ takenApart noFields ys
       → Answered (lent ends rests uses (fromsOf (take maxSegments ys)) (tosOf (take maxSegments ys)) (valuesOf (take maxSegments ys))) c r
   next-told = answered-at froms-told tos-told values-told
 
-  pub enter-told : (ends : List ℕ) (units : ℕ) (full : Bool) {r : Cursor} → r ≡ entered ends (fromsIn f) units full → r ≡ entered ends (fromsOf ys) units full
+  pub enter-told : (ends : List ℕ) (units : ℕ) (full : Bool) {r : Cursor} → r ≡ entered ends (fromsIn f) units full
+      → r ≡ entered ends (fromsOf ys) units full
   enter-told ends units full p = p ∙ ap (λ (fs : List ℕ). entered ends fs units full) froms-told ∙ first-start ends units full ys
 
   module _ (regs : List ℕ) (count reg : ℕ) (full : Bool) (ends rests uses : List ℕ) where
     abbrev Answer : Bool → List ℕ → List ℕ → List ℕ → Start
     Answer b fs ts vs = checkAnswer b regs count reg full ends rests uses fs ts vs
 
-    pub check-told : {r : Start} → r ≡ Answer (f .long) (fromsIn f) (tosIn f) (valuesIn f) → r ≡ Answer (ltb maxSegments (length ys)) (fromsOf ys) (tosOf ys) (valuesOf ys)
+    pub check-told : {r : Start} → r ≡ Answer (f .long) (fromsIn f) (tosIn f) (valuesIn f)
+        → r ≡ Answer (ltb maxSegments (length ys)) (fromsOf ys) (tosOf ys) (valuesOf ys)
     unfolding checkAnswer
     check-told p = p ∙ go (ltb maxSegments (length ys)) refl
       where
-        go : (t : Bool) → ltb maxSegments (length ys) ≡ t → Answer (f .long) (fromsIn f) (tosIn f) (valuesIn f) ≡ Answer (ltb maxSegments (length ys)) (fromsOf ys) (tosOf ys) (valuesOf ys)
-        go true q = ap (λ (b : Bool). Answer b (fromsIn f) (tosIn f) (valuesIn f)) (long-told ∙ q) ∙ ap (λ (b : Bool). Answer b (fromsOf ys) (tosOf ys) (valuesOf ys)) (sym q)
+        go : (t : Bool) → ltb maxSegments (length ys) ≡ t → Answer (f .long) (fromsIn f) (tosIn f)
+            (valuesIn f) ≡ Answer (ltb maxSegments (length ys)) (fromsOf ys) (tosOf ys) (valuesOf ys)
+        go true q = ap (λ (b : Bool). Answer b (fromsIn f) (tosIn f) (valuesIn f)) (long-told ∙ q)
+            ∙ ap (λ (b : Bool). Answer b (fromsOf ys) (tosOf ys) (valuesOf ys)) (sym q)
         go false q =
             ap (λ (b : Bool). Answer b (fromsIn f) (tosIn f) (valuesIn f)) long-told
             ∙ ap (λ (fs : List ℕ). Answer (ltb maxSegments (length ys)) fs (tosIn f) (valuesIn f)) (froms-told ∙ ap fromsOf (all-seen q))
@@ -114,17 +121,20 @@ module _ (ys : List ValueSegment) (f : Fields) (e : f ≡ takenApart noFields ys
       go : (t : Bool) → ltb maxSegments (length ys) ≡ t → AssignAnswer (ltb maxSegments (length ys)) v m uses (fromsIn f) (tosIn f) w w′ r
           → AssignAnswer (ltb maxSegments (length ys)) v m uses (fromsOf ys) (tosOf ys) w w′ r
       go true q a =
-          let z : AssignAnswer true v m uses (fromsIn f) (tosIn f) w w′ r = subst (λ (b : Bool). AssignAnswer b v m uses (fromsIn f) (tosIn f) w w′ r) q a in
+          let z : AssignAnswer true v m uses (fromsIn f) (tosIn f) w w′ r = subst (λ (b : Bool). AssignAnswer b v m uses (fromsIn f)
+          (tosIn f) w w′ r) q a in
           subst (λ (b : Bool). AssignAnswer b v m uses (fromsOf ys) (tosOf ys) w w′ r) (sym q) (record { answer = z .answer; after = z .after })
       go false q a =
           subst (λ (ts : List ℕ). AssignAnswer (ltb maxSegments (length ys)) v m uses (fromsOf ys) ts w w′ r) (tos-told ∙ ap tosOf (all-seen q))
           (subst (λ (fs : List ℕ). AssignAnswer (ltb maxSegments (length ys)) v m uses fs (tosIn f) w w′ r) (froms-told ∙ ap fromsOf (all-seen q)) a)
 
-  pub evict-told : {v m : ℕ} {uses : List ℕ} {w w′ : Words} {r : Moved} → EvictAnswer (f .long) v m uses (tosIn f) w w′ r → EvictAnswer (ltb maxSegments (length ys)) v m uses (tosOf ys) w w′ r
+  pub evict-told : {v m : ℕ} {uses : List ℕ} {w w′ : Words} {r : Moved} → EvictAnswer (f .long) v m uses (tosIn f) w w′ r
+      → EvictAnswer (ltb maxSegments (length ys)) v m uses (tosOf ys) w w′ r
   evict-told {v} {m} {uses} {w} {w′} {r} p =
       go (ltb maxSegments (length ys)) refl (subst (λ (b : Bool). EvictAnswer b v m uses (tosIn f) w w′ r) long-told p)
     where
-      go : (t : Bool) → ltb maxSegments (length ys) ≡ t → EvictAnswer (ltb maxSegments (length ys)) v m uses (tosIn f) w w′ r → EvictAnswer (ltb maxSegments (length ys)) v m uses (tosOf ys) w w′ r
+      go : (t : Bool) → ltb maxSegments (length ys) ≡ t → EvictAnswer (ltb maxSegments (length ys)) v m uses (tosIn f) w w′ r
+          → EvictAnswer (ltb maxSegments (length ys)) v m uses (tosOf ys) w w′ r
       go true q a =
           let z : EvictAnswer true v m uses (tosIn f) w w′ r = subst (λ (b : Bool). EvictAnswer b v m uses (tosIn f) w w′ r) q a in
           subst (λ (b : Bool). EvictAnswer b v m uses (tosOf ys) w w′ r) (sym q) (record { answer = z .answer; after = z .after })

@@ -91,7 +91,8 @@ module _ (at : Fields → List ℕ) (g : ValueSegment → ℕ) (puts : (f : Fiel
   abbrev So-far : Fields → List ValueSegment → List ℕ
   So-far f ss = take (f .count) (at f) ++ map g (take (512 - f .count) ss)
 
-  one-more : (f : Fields) (s : ValueSegment) (ss : List ValueSegment) → f .count ≤ 512 → length (at f) ≡ 512 → So-far (added f s) ss ≡ So-far f (s ∷ ss)
+  one-more : (f : Fields) (s : ValueSegment) (ss : List ValueSegment) → f .count ≤ 512 → length (at f) ≡ 512 → So-far (added f s) ss ≡ So-far f (s
+      ∷ ss)
   one-more f s ss h l = go (ltb (f .count) 512) refl
     where
       first : f .count < 512 → take (512 - f .count) (s ∷ ss) ≡ s ∷ take (512 - (f .count + 1)) ss
@@ -120,16 +121,20 @@ module _ (at : Fields → List ℕ) (g : ValueSegment → ℕ) (puts : (f : Fiel
   lengthy [] f l = l
   lengthy (s ∷ ss) f l = lengthy ss (added f s) (long-enough f s l)
 
-  held : (ss : List ValueSegment) (f : Fields) → f .count ≤ 512 → length (at f) ≡ 512 → take (takenApart f ss .count) (at (takenApart f ss)) ≡ So-far f ss
+  held : (ss : List ValueSegment) (f : Fields) → f .count ≤ 512 → length (at f) ≡ 512
+      → take (takenApart f ss .count) (at (takenApart f ss)) ≡ So-far f ss
   unfolding takenApart
-  held [] f h l = sym (ap (λ (z : List ValueSegment). take (f .count) (at f) ++ map g z) (take-nil (512 - f .count)) ∙ append-nil (take (f .count) (at f)))
+  held [] f h l = sym (ap (λ (z : List ValueSegment). take (f .count) (at f) ++ map g z) (take-nil (512 - f .count))
+      ∙ append-nil (take (f .count) (at f)))
   held (s ∷ ss) f h l = held ss (added f s) (bounded f s h) (long-enough f s l) ∙ one-more f s ss h l
 
-  parted : length (at noFields) ≡ 512 → (ss : List ValueSegment) → part 0 (takenApart noFields ss .count) (at (takenApart noFields ss)) ≡ map g (take 512 ss)
+  parted : length (at noFields) ≡ 512 → (ss : List ValueSegment) → part 0 (takenApart noFields ss .count)
+      (at (takenApart noFields ss)) ≡ map g (take 512 ss)
   unfolding noFields
   parted l ss =
       let all : takenApart noFields ss .count - 0 ≡ takenApart noFields ss .count = omega arith in
-      inside 0 _ _ (omega arith) (let c : takenApart noFields ss .count ≤ 512 = counted ss noFields (omega arith) in omega (arith, lengthy ss noFields l))
+      inside 0 _ _ (omega arith)
+      (let c : takenApart noFields ss .count ≤ 512 = counted ss noFields (omega arith) in omega (arith, lengthy ss noFields l))
       ∙ ap (λ (k : ℕ). take k (at (takenApart noFields ss))) all ∙ held ss noFields (omega arith) l
 
 -- ---- all that is had of the segments

@@ -21,7 +21,8 @@ unfoldable pub checkAnswer : Bool → List ℕ → ℕ → ℕ → Bool → List
 checkAnswer long regs count reg full ends rests uses froms tos values =
     startOf
     (unlessLong long
-    (checkRefusal (length regs ∷ length uses ∷ length ends ∷ length rests ∷ length froms ∷ length tos ∷ length values ∷ []) (take count regs) reg (segmentsIn froms tos values)))
+    (checkRefusal (length regs ∷ length uses ∷ length ends ∷ length rests ∷ length froms ∷ length tos ∷ length values
+    ∷ []) (take count regs) reg (segmentsIn froms tos values)))
     (entered ends froms (getD regs reg 0) full)
 
 pub record AssignAnswer (long : Bool) (v m : ℕ) (uses froms tos : List ℕ) (w w′ : Words) (r : Moved) : Type 0 where

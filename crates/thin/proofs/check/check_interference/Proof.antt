@@ -1,4 +1,5 @@
--- `check_interference` meets its contract: a walk of its MIR, by hand. The segments are taken apart, and all else is passed on to `check_fields` as it came.
+-- `check_interference` meets its contract: a walk of its MIR, by hand. The segments are taken apart, and all else is passed on to `check_fields` as
+-- it came.
 -- Of the two callees it knows only that they meet their contracts. Assumes nothing.
 use mathlib.Core.Path.{_≡_, refl, subst}
 use Prim.Native.Nat.{ℕ, _<_, _^_}
@@ -20,10 +21,12 @@ use contract.Lifetimes.{Lfts, Shares, toks}
 use contract.Monad.{Fun, fact}
 use contract.Running.{givenOf, tables, tablesOf}
 use sound.WpLaws.{fmOf, WpFn-mono}
-use types.Kit.{Given, Item, ‵, raw, atRet, _⊛_, some, later, ⋆, _$_, _∵_, !, qed, by, move, use1, use2, split, join, pick, fsplit, fjoin, suffices, frame, await, done}
-use types.Run.{look, exec, init, forget, stop, from, load, and-then, no-more, land, returns, enter, alloc1, alloc0, params1, pass1, pass0, free1, free0}
+use types.Kit.{Given, Item, ‵, raw, atRet, _⊛_, some, later, ⋆, _$_, _∵_, !, qed, by, move, use1, use2, split, join, pick, fsplit, fjoin, suffices}
+use types.Kit.{frame, await, done}
+use types.Run.{look, exec, init, forget, stop, from, load, and-then, no-more, land, returns, enter, alloc1, alloc0, params1, pass1, pass0, free1}
+use types.Run.{free0}
 use denote.Exit.{yes}
-use denote.RattleType.{RattleType, owns}
+use denote.RattleType.{owns}
 use denote.Laws.{Is, shows}
 use denote.Plain.{uint-vals, uint-tells, bool-vals, bool-tells}
 use denote.Ref.{RefT, now}
@@ -43,13 +46,13 @@ use denote.Triple.Walked.{says, Stays, stay-dropped, walkOf, Walks, ends-at, wal
 use Rattle.reg_matrix.specs.declared.ValueSegment.{ValueSegment}
 use Rattle.matrix.specs.declared.Start.{Start}
 use Rattle.thin.specs.declared.Fields.{Fields}
-use Rattle.thin.specs.Apart.{maxSegments, noFields, takenApart, fromsIn, tosIn, valuesIn, fromsOf, tosOf, valuesOf}
+use Rattle.thin.specs.Apart.{maxSegments, fromsIn, tosIn, valuesIn, fromsOf, tosOf, valuesOf}
 use Rattle.thin.specs.Answers.{checkAnswer}
 use Rattle.matrix.proofs.Start as E
 use Rattle.matrix.proofs.Start.Laws as E′
 use Rattle.thin.proofs.Fields as T
 use Rattle.thin.proofs.Fields.Laws as T′
-use Rattle.thin.proofs.Calling.{R, segmentSlice, TakeApart, segments, Own, to-apart, goes-apart, Ensured, said-apart}
+use Rattle.thin.proofs.Calling.{R, F, segmentSlice, TakeApart, segments, Own, to-apart, goes-apart, answered}
 use Rattle.thin.proofs.AnswerLaws.{check-told}
 use Rattle.thin.proofs.taking.take_apart.Symbol as apart-def
 use Rattle.thin.proofs.taking.take_apart.Symbol.{name as #take-apart}
@@ -63,9 +66,6 @@ use Rattle.thin.proofs.check.check_interference as fun
 use Rattle.thin.proofs.check.check_interference.Statement as stated
 use Rattle.thin.proofs.check.check_interference.Code as code
 
-abbrev F : RattleType
-F = T.the-row
-
 abbrev words : ℕ → Ty
 words j = sliceTy (tyRef (named j) imm (tyInt w64))
 
@@ -75,7 +75,8 @@ function = record {
   lifetimes = 5;
   outlives = [];
   params = 8;
-  locals = local E′.mir valueLocal ∷ local segmentSlice valueLocal ∷ local (words 1) valueLocal ∷ local (tyInt w64) valueLocal ∷ local (tyInt w64) valueLocal ∷ local tyBool valueLocal
+  locals = local E′.mir valueLocal ∷ local segmentSlice valueLocal ∷ local (words 1) valueLocal ∷ local (tyInt w64) valueLocal
+      ∷ local (tyInt w64) valueLocal ∷ local tyBool valueLocal
       ∷ local (words 2) valueLocal ∷ local (words 3) valueLocal ∷ local (words 4) valueLocal ∷ local T′.mir valueLocal ∷ [];
   body = code.Mir.t-1;
 }
@@ -91,7 +92,8 @@ module _ {M : Type 1} (𝓤 : URA M) (H : Heap 𝓤) (A : Atoms 𝓤) (mem : Mem
   abbrev Covered : Contract 𝓤
   Covered = tripleOf 𝓤 H A covered.signature (covered.spec 𝓤 H A mem run)
 
-module _ {M : Type 1} (𝓤 : URA M) (H : Heap 𝓤) (A : Atoms 𝓤) (W : Given 𝓤 H A) (mem : Memory → SProp 𝓤) (run : Routine → Fun 𝓤) (κ : Lft) (κs : Lfts 4) (q : Share) (qs : Shares 4)
+module _ {M : Type 1} (𝓤 : URA M) (H : Heap 𝓤) (A : Atoms 𝓤) (W : Given 𝓤 H A) (mem : Memory → SProp 𝓤) (run : Routine
+    → Fun 𝓤) (κ : Lft) (κs : Lfts 4) (q : Share) (qs : Shares 4)
     (b o : ℕ) (γ : GName) (ys : List ValueSegment) (regs : RefT (List ℕ)) (count reg : ℕ) (full : Bool) (ends rests uses : RefT (List ℕ)) where
   -- what is passed on
   abbrev Passed : Type 0
@@ -110,7 +112,8 @@ module _ {M : Type 1} (𝓤 : URA M) (H : Heap 𝓤) (A : Atoms 𝓤) (W : Given
   vs = (sv regs ∷ [], (vint w64 count ∷ [], (vint w64 reg ∷ [], (vbool full ∷ [], (sv ends ∷ [], (sv rests ∷ [], (sv uses ∷ [], tt)))))))
 
   abbrev Rest : Fml
-  Rest = owns (ShrSlice (named 1) (κs .0) u64 ∷ usize ∷ usize ∷ bool ∷ ShrSlice (named 2) (κs .1 .0) u64 ∷ ShrSlice (named 3) (κs .1 .1 .0) u64 ∷ ShrSlice (named 4) (κs .1 .1 .1 .0) u64 ∷ []) xs vs
+  Rest = owns (ShrSlice (named 1) (κs .0) u64 ∷ usize ∷ usize ∷ bool ∷ ShrSlice (named 2) (κs .1 .0) u64 ∷ ShrSlice (named 3) (κs .1 .1 .0) u64
+      ∷ ShrSlice (named 4) (κs .1 .1 .1 .0) u64 ∷ []) xs vs
 
   abbrev Tokens : SProp 𝓤
   Tokens = toks 𝓤 A 4 κs qs
@@ -138,7 +141,8 @@ module _ {M : Type 1} (𝓤 : URA M) (H : Heap 𝓤) (A : Atoms 𝓤) (W : Given
       qed W (‵ (E.the-row .own r (w ∷ [])) ∷ raw Tokens ∷ (‵ (flft κ q) ⊛ ‵ ftrue) ∷ []) ∵
       suffices ! _ (ends-at 𝓤 H A fun.ended stayed (fun.clauses 𝓤 H A mem run) W (((κ, κs), (q, qs), tt, (x, xs), at), tt) w r
       (tt, (tt, (tt, (tt, (tt, (tt, (tt, (tt, tt)))))))) (tt, (tt, (tt, (tt, (tt, (tt, (tt, (tt, tt))))))))) $ says ! e $
-      move ! (2 ∷ []) $ split ! $ move ! (0 ∷ 3 ∷ []) $ join ! $ frame ! $ nothing ! $ fjoin ! $ nothing ! $ fjoin ! $ nothing ! $ fjoin ! $ nothing ! $ fjoin ! $
+      move ! (2 ∷ []) $ split ! $ move ! (0 ∷ 3 ∷ []) $ join ! $ frame ! $ nothing ! $ fjoin ! $ nothing ! $ fjoin ! $ nothing ! $ fjoin ! $
+      nothing ! $ fjoin ! $
       nothing ! $ fjoin ! $ nothing ! $ fjoin ! $ nothing ! $ fjoin ! $ nothing ! $ fjoin ! $ frame ! $ done !
 
   abbrev to : Fields → Val → Covered 𝓤 H A mem run .Ghost
@@ -153,17 +157,22 @@ module _ {M : Type 1} (𝓤 : URA M) (H : Heap 𝓤) (A : Atoms 𝓤) (W : Given
   said : (f : Fields) (r : Start) → ent 𝓤 (Ensures f r) (fact 𝓤 (Heard f r))
   said f r = exE 𝓤 _ (λ ws. snd∗ 𝓤 (sem 𝓤 H A (lasts covered.ended κs (f, xs) ws)) (fact 𝓤 (Heard f r)))
 
-  module _ (𝓣 : Tables 𝓤 H) (known-apart : Triple 𝓤 (𝓣 .C #take-apart) (TakeApart 𝓤 H A mem run)) (known : Triple 𝓤 (𝓣 .C #covered) (Covered 𝓤 H A mem run))
+  module _ (𝓣 : Tables 𝓤 H) (known-apart : Triple 𝓤 (𝓣 .C #take-apart) (TakeApart 𝓤 H A mem run)) (known : Triple 𝓤 (𝓣 .C #covered)
+      (Covered 𝓤 H A mem run))
       (l₀ l₁ l₂ l₃ l₄ l₅ l₆ l₇ l₈ l₉ : ℕ) where
     abbrev En : Env 𝓤 H
-    En = (E′.mir, l₀) ∷ (segmentSlice, l₁) ∷ (words 1, l₂) ∷ (tyInt w64, l₃) ∷ (tyInt w64, l₄) ∷ (tyBool, l₅) ∷ (words 2, l₆) ∷ (words 3, l₇) ∷ (words 4, l₈) ∷ (T′.mir, l₉) ∷ []
+    En = (E′.mir, l₀) ∷ (segmentSlice, l₁) ∷ (words 1, l₂) ∷ (tyInt w64, l₃) ∷ (tyInt w64, l₄) ∷ (tyBool, l₅) ∷ (words 2, l₆) ∷ (words 3, l₇)
+        ∷ (words 4, l₈) ∷ (T′.mir, l₉) ∷ []
 
     -- what there is once the parameters are passed
     abbrev Entered : List (Item 𝓤)
-    Entered = ‵ (froom T′.mir l₉ 0) ∷ ‵ (fdies T′.mir l₉) ∷ ‵ (fat fullShare (words 4) l₈ 0 (sv uses)) ∷ ‵ (fdies (words 4) l₈) ∷ ‵ (fat fullShare (words 3) l₇ 0 (sv rests)) ∷ ‵ (fdies (words 3) l₇)
+    Entered = ‵ (froom T′.mir l₉ 0) ∷ ‵ (fdies T′.mir l₉) ∷ ‵ (fat fullShare (words 4) l₈ 0 (sv uses)) ∷ ‵ (fdies (words 4) l₈)
+        ∷ ‵ (fat fullShare (words 3) l₇ 0 (sv rests)) ∷ ‵ (fdies (words 3) l₇)
         ∷ ‵ (fat fullShare (words 2) l₆ 0 (sv ends)) ∷ ‵ (fdies (words 2) l₆) ∷ ‵ (fat fullShare tyBool l₅ 0 (vbool full)) ∷ ‵ (fdies tyBool l₅)
-        ∷ ‵ (fat fullShare (tyInt w64) l₄ 0 (vint w64 reg)) ∷ ‵ (fdies (tyInt w64) l₄) ∷ ‵ (fat fullShare (tyInt w64) l₃ 0 (vint w64 count)) ∷ ‵ (fdies (tyInt w64) l₃)
-        ∷ ‵ (fat fullShare (words 1) l₂ 0 (sv regs)) ∷ ‵ (fdies (words 1) l₂) ∷ ‵ (fat fullShare segmentSlice l₁ 0 (sliceVal (b, o) n)) ∷ ‵ (fdies segmentSlice l₁)
+        ∷ ‵ (fat fullShare (tyInt w64) l₄ 0 (vint w64 reg)) ∷ ‵ (fdies (tyInt w64) l₄) ∷ ‵ (fat fullShare (tyInt w64) l₃ 0 (vint w64 count))
+        ∷ ‵ (fdies (tyInt w64) l₃)
+        ∷ ‵ (fat fullShare (words 1) l₂ 0 (sv regs)) ∷ ‵ (fdies (words 1) l₂) ∷ ‵ (fat fullShare segmentSlice l₁ 0 (sliceVal (b, o) n))
+        ∷ ‵ (fdies segmentSlice l₁)
         ∷ ‵ (froom E′.mir l₀ 0) ∷ ‵ (fdies E′.mir l₀) ∷ (‵ (flft κ q) ⊛ raw Tokens) ∷ ‵ (fsep (Own 𝓤 H A mem run κ q b o γ ys) Rest) ∷ []
 
     begins : ent 𝓤 (⋆ 𝓤 H A Entered) (Wp 𝓤 H (𝓣 .C) (𝓣 .Λ) En code.Mir.t-1 (atReturn 𝓤 H En Post))
@@ -172,32 +181,37 @@ module _ {M : Type 1} (𝓤 : URA M) (H : Heap 𝓤) (A : Atoms 𝓤) (W : Given
         move ! (21 ∷ []) $ fsplit ! $ move ! (22 ∷ []) $ split ! $ move ! (0 ∷ 2 ∷ []) $
         -- [the token; what the slice owns; the other tokens; what is passed on; _9; …; _0; …]
         use2 W (raw (TakeApart 𝓤 H A mem run .pre (to-apart 𝓤 H A mem run κ q b o γ ys))) (goes-apart 𝓤 H A mem run κ q b o γ ys W) $
-        calls-at ! (fmOf 𝓤 H (W .laws) 𝓣) (TakeApart 𝓤 H A mem run) known-apart (to-apart 𝓤 H A mem run κ q b o γ ys) (and-then ! (load ! (from ! (stop !)) (look ! 19 refl)) (no-more !)) (λ v.
-        use1 W (later (some (λ (f : Fields). ((‵ (flft κ q) ⊛ ‵ ftrue) ⊛ ‵ (F .own f (v ∷ []))) ⊛ raw (Ensured 𝓤 H A mem run κ q b o γ ys f)))) (id⊢ 𝓤 _) $ await ! tt $ pick ! (λ f.
-        split ! $ move ! (1 ∷ []) $ use1 W (raw (fact 𝓤 (f ≡ takenApart noFields ys))) (said-apart 𝓤 H A mem run κ q b o γ ys f) $ heard ! (f ≡ takenApart noFields ys) (λ ea.
-        split ! $ move ! (1 ∷ []) $ peeks ! F (Is F) (shows 𝓤 H A F) f (v ∷ []) (λ isf.
+        calls-at ! (fmOf 𝓤 H (W .laws) 𝓣) (TakeApart 𝓤 H A mem run) known-apart (to-apart 𝓤 H A mem run κ q b o γ ys)
+        (and-then ! (load ! (from ! (stop !)) (look ! 19 refl)) (no-more !)) (λ v.
+        answered 𝓤 H A mem run κ q b o γ ys ! tt v (λ f ea isf.
         -- [what the fields own; the token; the other tokens; what is passed on; _9; …]
         land ! (from ! (stop !)) (init ! 4 refl (LL.lawful T.the-type T′.the-laws 𝓤 H A W .typed f (v ∷ []) isf .0)) $
         move ! (0 ∷ 3 ∷ []) $ fjoin ! $ move ! (2 ∷ 0 ∷ []) $ use2 W (raw (Covered 𝓤 H A mem run .pre (to f v))) (goes f v) $
         calls-at ! (fmOf 𝓤 H (W .laws) 𝓣) (Covered 𝓤 H A mem run) known (to f v)
-        (and-then ! (load ! (from ! (stop !)) (look ! 2 refl)) (and-then ! (load ! (from ! (stop !)) (look ! 16 refl)) (and-then ! (load ! (from ! (stop !)) (look ! 14 refl))
-        (and-then ! (load ! (from ! (stop !)) (look ! 12 refl)) (and-then ! (load ! (from ! (stop !)) (look ! 10 refl)) (and-then ! (load ! (from ! (stop !)) (look ! 8 refl))
+        (and-then ! (load ! (from ! (stop !)) (look ! 2 refl)) (and-then ! (load ! (from ! (stop !)) (look ! 16 refl))
+        (and-then ! (load ! (from ! (stop !)) (look ! 14 refl))
+        (and-then ! (load ! (from ! (stop !)) (look ! 12 refl)) (and-then ! (load ! (from ! (stop !)) (look ! 10 refl))
+        (and-then ! (load ! (from ! (stop !)) (look ! 8 refl))
         (and-then ! (load ! (from ! (stop !)) (look ! 6 refl)) (and-then ! (load ! (from ! (stop !)) (look ! 4 refl)) (no-more !))))))))) (λ w.
         use1 W (later (some (λ (r : Start). (raw Tokens ⊛ ‵ (E.the-row .own r (w ∷ []))) ⊛ raw (Ensures f r)))) (id⊢ 𝓤 _) $ await ! tt $ pick ! (λ r.
         split ! $ move ! (1 ∷ []) $ use1 W (raw (fact 𝓤 (Heard f r))) (said f r) $ heard ! (Heard f r) (λ e.
         split ! $ move ! (1 ∷ []) $ peeks ! E.the-row (Is E.the-row) (shows 𝓤 H A E.the-row) r (w ∷ []) (λ is.
         -- [the result; the other tokens; the token; _9; …]
         land ! (from ! (stop !)) (init ! 21 refl (EL.lawful E.the-type E′.the-laws 𝓤 H A W tt .typed r _ is .0)) $
-        returns ! (look ! 21 refl) $ forget ! 3 refl $ forget ! 5 refl $ forget ! 7 refl $ forget ! 9 refl $ forget ! 11 refl $ forget ! 13 refl $ forget ! 15 refl $ forget ! 17 refl $ forget ! 19 refl $ forget ! 21 refl $
-        move ! (21 ∷ 22 ∷ []) $ free1 ! $ move ! (19 ∷ 20 ∷ []) $ free1 ! $ move ! (17 ∷ 18 ∷ []) $ free1 ! $ move ! (15 ∷ 16 ∷ []) $ free1 ! $ move ! (13 ∷ 14 ∷ []) $ free1 ! $
-        move ! (11 ∷ 12 ∷ []) $ free1 ! $ move ! (9 ∷ 10 ∷ []) $ free1 ! $ move ! (7 ∷ 8 ∷ []) $ free1 ! $ move ! (5 ∷ 6 ∷ []) $ free1 ! $ move ! (3 ∷ 4 ∷ []) $ free1 ! $ free0 ! $
-        by ! (exits r w (check-told ys f ea (now regs) count reg full (now ends) (now rests) (now uses) e))))))))))
+        returns ! (look ! 21 refl) $ forget ! 3 refl $ forget ! 5 refl $ forget ! 7 refl $ forget ! 9 refl $ forget ! 11 refl $ forget ! 13 refl $
+        forget ! 15 refl $ forget ! 17 refl $ forget ! 19 refl $ forget ! 21 refl $
+        move ! (21 ∷ 22 ∷ []) $ free1 ! $ move ! (19 ∷ 20 ∷ []) $ free1 ! $ move ! (17 ∷ 18 ∷ []) $ free1 ! $ move ! (15 ∷ 16 ∷ []) $ free1 ! $
+        move ! (13 ∷ 14 ∷ []) $ free1 ! $
+        move ! (11 ∷ 12 ∷ []) $ free1 ! $ move ! (9 ∷ 10 ∷ []) $ free1 ! $ move ! (7 ∷ 8 ∷ []) $ free1 ! $ move ! (5 ∷ 6 ∷ []) $ free1 ! $
+        move ! (3 ∷ 4 ∷ []) $ free1 ! $ free0 ! $
+        by ! (exits r w (check-told ys f ea (now regs) count reg full (now ends) (now rests) (now uses) e))))))))
 
   abbrev args : List Val
   args = sliceVal (b, o) n ∷ sv regs ∷ vint w64 count ∷ vint w64 reg ∷ vbool full ∷ sv ends ∷ sv rests ∷ sv uses ∷ []
 
   walk : (𝓣 : Tables 𝓤 H) → Triple 𝓤 (𝓣 .C #take-apart) (TakeApart 𝓤 H A mem run) → Triple 𝓤 (𝓣 .C #covered) (Covered 𝓤 H A mem run)
-      → Room R n → Room u64 (length (now regs)) → count < 2 ^ 64 → reg < 2 ^ 64 → Room u64 (length (now ends)) → Room u64 (length (now rests)) → Room u64 (length (now uses))
+      → Room R n → Room u64 (length (now regs)) → count < 2 ^ 64 → reg < 2 ^ 64 → Room u64 (length (now ends)) → Room u64 (length (now rests))
+      → Room u64 (length (now uses))
       → ent 𝓤 (onEntry 𝓤 H A fun.signature (κ, κs) (q, qs) (x, xs) at) (WpFn 𝓤 H (𝓣 .C) (𝓣 .Λ) function args Post)
   walk 𝓣 known-apart known gn gm gc gg ge gr gu =
       qed W ((‵ (flft κ q) ⊛ raw Tokens) ∷ ‵ (fsep (Own 𝓤 H A mem run κ q b o γ ys) Rest) ∷ []) ∵ enter ! (𝓣 .C) (𝓣 .Λ) function args _ $
@@ -224,7 +238,17 @@ module _ {M : Type 1} (𝓤 : URA M) (H : Heap 𝓤) (A : Atoms 𝓤) (W : Given
               uint-tells w64,
               (
                 bool-tells,
-                (shr-slice-tells (named 2) (κs .1 .1 .0) u64, (shr-slice-tells (named 3) (κs .1 .1 .1 .0) u64, (shr-slice-tells (named 4) (κs .1 .1 .1 .1 .0) u64, tt))),
+                (
+                  shr-slice-tells (named 2) (κs .1 .1 .0) u64,
+                  (
+                    shr-slice-tells (named 3) (κs .1 .1 .1 .0) u64,
+                    (
+                      shr-slice-tells (named 4)
+                          (κs .1 .1 .1 .1 .0) u64,
+                      tt,
+                    ),
+                  ),
+                ),
               ),
             ),
           ),
@@ -232,8 +256,10 @@ module _ {M : Type 1} (𝓤 : URA M) (H : Heap 𝓤) (A : Atoms 𝓤) (W : Given
       ))
       (λ κs qs bounds a g are. via 𝓤 _ (fst∗ 𝓤 _ (emp 𝓤))
       (walk 𝓤 H A W mem run (κs .0) (κs .1) (qs .0) (qs .1) (a .0 .ptr .0) (a .0 .ptr .1) (a .0 .name) (a .0 .now)
-      (a .1 .0) (a .1 .1 .0) (a .1 .1 .1 .0) (a .1 .1 .1 .1 .0) (a .1 .1 .1 .1 .1 .0) (a .1 .1 .1 .1 .1 .1 .0) (a .1 .1 .1 .1 .1 .1 .1 .0) 𝓣 known-apart known
-      (are .0 .0 .1) (are .1 .0 .0 .1) (are .1 .1 .0 .1) (are .1 .1 .1 .0 .1) (are .1 .1 .1 .1 .1 .0 .0 .1) (are .1 .1 .1 .1 .1 .1 .0 .0 .1) (are .1 .1 .1 .1 .1 .1 .1 .0 .0 .1)))
+      (a .1 .0) (a .1 .1 .0) (a .1 .1 .1 .0) (a .1 .1 .1 .1 .0) (a .1 .1 .1 .1 .1 .0) (a .1 .1 .1 .1 .1 .1 .0)
+      (a .1 .1 .1 .1 .1 .1 .1 .0) 𝓣 known-apart known
+      (are .0 .0 .1) (are .1 .0 .0 .1) (are .1 .1 .0 .1) (are .1 .1 .1 .0 .1) (are .1 .1 .1 .1 .1 .0 .0 .1) (are .1 .1 .1 .1 .1 .1 .0 .0 .1)
+      (are .1 .1 .1 .1 .1 .1 .1 .0 .0 .1)))
 
 fun-meets : {M : Type 1} (𝓤 : URA M) (H : Heap 𝓤) (A : Atoms 𝓤) (W : Given 𝓤 H A) (mem : Memory → SProp 𝓤) (run : Routine → Fun 𝓤) (𝓣 : Tables 𝓤 H)
     → Triple 𝓤 (𝓣 .C #take-apart) (TakeApart 𝓤 H A mem run) → Triple 𝓤 (𝓣 .C #covered) (Covered 𝓤 H A mem run)
@@ -262,7 +288,8 @@ fun-meets 𝓤 H A W mem run 𝓣 known-apart known =
         ),
       ),
     )
-    (fun.clauses 𝓤 H A mem run) (WpFn 𝓤 H (𝓣 .C) (𝓣 .Λ) function) (WpFn-mono 𝓤 H (W .laws) 𝓣 function) (fun-walks 𝓤 H A W mem run 𝓣 known-apart known))
+    (fun.clauses 𝓤 H A mem run) (WpFn 𝓤 H (𝓣 .C) (𝓣 .Λ) function) (WpFn-mono 𝓤 H (W .laws) 𝓣 function)
+    (fun-walks 𝓤 H A W mem run 𝓣 known-apart known))
 
 pub check-interference-spec : {M : Type 1} → stated.statement M
 unfolding code.routine tablesOf
@@ -270,5 +297,7 @@ check-interference-spec 𝓤 H 𝓜 𝓖 𝓡 =
     entered 𝓤 H (tripleOf 𝓤 H (𝓖 .A) fun.signature (fun.spec 𝓤 H (𝓖 .A) (𝓜 .mem) (𝓡 .run)))
     (tables 𝓤 H 𝓜 𝓡 code.env .C) (tables 𝓤 H 𝓜 𝓡 code.env .Λ) #check-interference code.function (code.unfolded 𝓤 H 𝓜 𝓡)
     (fun-meets 𝓤 H (𝓖 .A) (givenOf 𝓤 H 𝓜 𝓖) (𝓜 .mem) (𝓡 .run) (tablesOf 𝓤 H 𝓜 (tables 𝓤 H 𝓜 𝓡 code.env))
-    (cited 𝓤 H (TakeApart 𝓤 H (𝓖 .A) (𝓜 .mem) (𝓡 .run)) 𝓜 𝓡 code.env #take-apart apart-def.routine code.calls-thin·taking·take-apart (apart-thm.met 𝓤 H 𝓜 𝓖 𝓡))
-    (cited 𝓤 H (Covered 𝓤 H (𝓖 .A) (𝓜 .mem) (𝓡 .run)) 𝓜 𝓡 code.env #covered covered-def.routine code.calls-thin·covered·check-fields (covered-thm.met 𝓤 H 𝓜 𝓖 𝓡)))
+    (cited 𝓤 H (TakeApart 𝓤 H (𝓖 .A) (𝓜 .mem)
+    (𝓡 .run)) 𝓜 𝓡 code.env #take-apart apart-def.routine code.calls-thin·taking·take-apart (apart-thm.met 𝓤 H 𝓜 𝓖 𝓡))
+    (cited 𝓤 H (Covered 𝓤 H (𝓖 .A) (𝓜 .mem)
+    (𝓡 .run)) 𝓜 𝓡 code.env #covered covered-def.routine code.calls-thin·covered·check-fields (covered-thm.met 𝓤 H 𝓜 𝓖 𝓡)))

@@ -1,4 +1,5 @@
--- `enter` meets its contract: a walk of its MIR, by hand. The segments are taken apart, and all else is passed on to `enter_fields` as it came. Of the two
+-- `enter` meets its contract: a walk of its MIR, by hand. The segments are taken apart, and all else is passed on to `enter_fields` as it came. Of
+-- the two
 -- callees it knows only that they meet their contracts. Assumes nothing.
 use mathlib.Core.Path.{_≡_, refl, subst}
 use Prim.Native.Nat.{ℕ, _<_, _^_}
@@ -19,10 +20,12 @@ use contract.Lifetimes.{Lfts, Shares, toks}
 use contract.Monad.{Fun, fact}
 use contract.Running.{givenOf, tables, tablesOf}
 use sound.WpLaws.{fmOf, WpFn-mono}
-use types.Kit.{Given, Item, ‵, raw, atRet, _⊛_, some, later, ⋆, _$_, _∵_, !, qed, by, move, use1, use2, split, join, pick, fsplit, fjoin, suffices, frame, await, done}
-use types.Run.{look, exec, init, forget, stop, from, load, and-then, no-more, land, returns, enter, alloc1, alloc0, params1, pass1, pass0, free1, free0}
+use types.Kit.{Given, Item, ‵, raw, atRet, _⊛_, some, later, ⋆, _$_, _∵_, !, qed, by, move, use1, use2, split, join, pick, fsplit, fjoin, suffices}
+use types.Kit.{frame, await, done}
+use types.Run.{look, exec, init, forget, stop, from, load, and-then, no-more, land, returns, enter, alloc1, alloc0, params1, pass1, pass0, free1}
+use types.Run.{free0}
 use denote.Exit.{yes}
-use denote.RattleType.{RattleType, owns}
+use denote.RattleType.{owns}
 use denote.Laws.{Is, shows}
 use denote.Plain.{uint-vals, uint-tells, bool-vals, bool-tells}
 use denote.Ref.{RefT, now}
@@ -42,12 +45,12 @@ use Rattle.reg_matrix.specs.declared.ValueSegment.{ValueSegment}
 use Rattle.matrix.specs.declared.Cursor.{Cursor}
 use Rattle.matrix.specs.Walk.{entered as positionAt}
 use Rattle.thin.specs.declared.Fields.{Fields}
-use Rattle.thin.specs.Apart.{noFields, takenApart, fromsIn, fromsOf}
+use Rattle.thin.specs.Apart.{fromsIn, fromsOf}
 use Rattle.matrix.proofs.Cursor as D
 use Rattle.matrix.proofs.Cursor.Laws as D′
 use Rattle.thin.proofs.Fields as T
 use Rattle.thin.proofs.Fields.Laws as T′
-use Rattle.thin.proofs.Calling.{R, segmentSlice, TakeApart, segments, Own, to-apart, goes-apart, Ensured, said-apart}
+use Rattle.thin.proofs.Calling.{R, F, segmentSlice, TakeApart, segments, Own, to-apart, goes-apart, answered}
 use Rattle.thin.proofs.AnswerLaws.{enter-told}
 use Rattle.thin.proofs.taking.take_apart.Symbol as apart-def
 use Rattle.thin.proofs.taking.take_apart.Symbol.{name as #take-apart}
@@ -61,9 +64,6 @@ use Rattle.thin.proofs.check.enter as fun
 use Rattle.thin.proofs.check.enter.Statement as stated
 use Rattle.thin.proofs.check.enter.Code as code
 
-abbrev F : RattleType
-F = T.the-row
-
 abbrev words : ℕ → Ty
 words j = sliceTy (tyRef (named j) imm (tyInt w64))
 
@@ -73,7 +73,8 @@ function = record {
   lifetimes = 2;
   outlives = [];
   params = 4;
-  locals = local D′.mir valueLocal ∷ local segmentSlice valueLocal ∷ local (words 1) valueLocal ∷ local (tyInt w64) valueLocal ∷ local tyBool valueLocal ∷ local T′.mir valueLocal ∷ [];
+  locals = local D′.mir valueLocal ∷ local segmentSlice valueLocal ∷ local (words 1) valueLocal ∷ local (tyInt w64) valueLocal
+      ∷ local tyBool valueLocal ∷ local T′.mir valueLocal ∷ [];
   body = code.Mir.t-1;
 }
 
@@ -89,7 +90,8 @@ module _ {M : Type 1} (𝓤 : URA M) (H : Heap 𝓤) (A : Atoms 𝓤) (mem : Mem
   Covered = tripleOf 𝓤 H A covered.signature (covered.spec 𝓤 H A mem run)
 
 module _ {M : Type 1} (𝓤 : URA M) (H : Heap 𝓤) (A : Atoms 𝓤) (W : Given 𝓤 H A) (mem : Memory → SProp 𝓤) (run : Routine → Fun 𝓤)
-    (κ : Lft) (κs : Lfts 1) (q : Share) (qs : Shares 1) (b o : ℕ) (γ : GName) (ys : List ValueSegment) (ends : RefT (List ℕ)) (units : ℕ) (full : Bool) where
+    (κ : Lft) (κs : Lfts 1) (q : Share) (qs : Shares 1) (b o : ℕ) (γ : GName) (ys : List ValueSegment) (ends : RefT (List ℕ)) (units : ℕ)
+    (full : Bool) where
   -- what is passed on
   abbrev Passed : Type 0
   Passed = RefT (List ℕ) × (ℕ × (Bool × Unit {0}))
@@ -149,14 +151,17 @@ module _ {M : Type 1} (𝓤 : URA M) (H : Heap 𝓤) (A : Atoms 𝓤) (W : Given
   said : (f : Fields) (r : Cursor) → ent 𝓤 (Ensures f r) (fact 𝓤 (Heard f r))
   said f r = exE 𝓤 _ (λ ws. snd∗ 𝓤 (sem 𝓤 H A (lasts covered.ended κs (f, xs) ws)) (fact 𝓤 (Heard f r)))
 
-  module _ (𝓣 : Tables 𝓤 H) (known-apart : Triple 𝓤 (𝓣 .C #take-apart) (TakeApart 𝓤 H A mem run)) (known : Triple 𝓤 (𝓣 .C #covered) (Covered 𝓤 H A mem run)) (l₀ l₁ l₂ l₃ l₄ l₅ : ℕ) where
+  module _ (𝓣 : Tables 𝓤 H) (known-apart : Triple 𝓤 (𝓣 .C #take-apart) (TakeApart 𝓤 H A mem run)) (known : Triple 𝓤 (𝓣 .C #covered)
+      (Covered 𝓤 H A mem run)) (l₀ l₁ l₂ l₃ l₄ l₅ : ℕ) where
     abbrev En : Env 𝓤 H
     En = (D′.mir, l₀) ∷ (segmentSlice, l₁) ∷ (words 1, l₂) ∷ (tyInt w64, l₃) ∷ (tyBool, l₄) ∷ (T′.mir, l₅) ∷ []
 
     -- what there is once the parameters are passed
     abbrev Entered : List (Item 𝓤)
-    Entered = ‵ (froom T′.mir l₅ 0) ∷ ‵ (fdies T′.mir l₅) ∷ ‵ (fat fullShare tyBool l₄ 0 (vbool full)) ∷ ‵ (fdies tyBool l₄) ∷ ‵ (fat fullShare (tyInt w64) l₃ 0 (vint w64 units)) ∷ ‵ (fdies (tyInt w64) l₃)
-        ∷ ‵ (fat fullShare (words 1) l₂ 0 (sv ends)) ∷ ‵ (fdies (words 1) l₂) ∷ ‵ (fat fullShare segmentSlice l₁ 0 (sliceVal (b, o) n)) ∷ ‵ (fdies segmentSlice l₁)
+    Entered = ‵ (froom T′.mir l₅ 0) ∷ ‵ (fdies T′.mir l₅) ∷ ‵ (fat fullShare tyBool l₄ 0 (vbool full)) ∷ ‵ (fdies tyBool l₄)
+        ∷ ‵ (fat fullShare (tyInt w64) l₃ 0 (vint w64 units)) ∷ ‵ (fdies (tyInt w64) l₃)
+        ∷ ‵ (fat fullShare (words 1) l₂ 0 (sv ends)) ∷ ‵ (fdies (words 1) l₂) ∷ ‵ (fat fullShare segmentSlice l₁ 0 (sliceVal (b, o) n))
+        ∷ ‵ (fdies segmentSlice l₁)
         ∷ ‵ (froom D′.mir l₀ 0) ∷ ‵ (fdies D′.mir l₀) ∷ (‵ (flft κ q) ⊛ raw Tokens) ∷ ‵ (fsep (Own 𝓤 H A mem run κ q b o γ ys) Rest) ∷ []
 
     begins : ent 𝓤 (⋆ 𝓤 H A Entered) (Wp 𝓤 H (𝓣 .C) (𝓣 .Λ) En code.Mir.t-1 (atReturn 𝓤 H En Post))
@@ -165,15 +170,15 @@ module _ {M : Type 1} (𝓤 : URA M) (H : Heap 𝓤) (A : Atoms 𝓤) (W : Given
         move ! (13 ∷ []) $ fsplit ! $ move ! (14 ∷ []) $ split ! $ move ! (0 ∷ 2 ∷ []) $
         -- [the token; what the slice owns; the other tokens; what is passed on; _5; …; _0; …]
         use2 W (raw (TakeApart 𝓤 H A mem run .pre (to-apart 𝓤 H A mem run κ q b o γ ys))) (goes-apart 𝓤 H A mem run κ q b o γ ys W) $
-        calls-at ! (fmOf 𝓤 H (W .laws) 𝓣) (TakeApart 𝓤 H A mem run) known-apart (to-apart 𝓤 H A mem run κ q b o γ ys) (and-then ! (load ! (from ! (stop !)) (look ! 11 refl)) (no-more !)) (λ v.
-        use1 W (later (some (λ (f : Fields). ((‵ (flft κ q) ⊛ ‵ ftrue) ⊛ ‵ (F .own f (v ∷ []))) ⊛ raw (Ensured 𝓤 H A mem run κ q b o γ ys f)))) (id⊢ 𝓤 _) $ await ! tt $ pick ! (λ f.
-        split ! $ move ! (1 ∷ []) $ use1 W (raw (fact 𝓤 (f ≡ takenApart noFields ys))) (said-apart 𝓤 H A mem run κ q b o γ ys f) $ heard ! (f ≡ takenApart noFields ys) (λ ea.
-        split ! $ move ! (1 ∷ []) $ peeks ! F (Is F) (shows 𝓤 H A F) f (v ∷ []) (λ isf.
+        calls-at ! (fmOf 𝓤 H (W .laws) 𝓣) (TakeApart 𝓤 H A mem run) known-apart (to-apart 𝓤 H A mem run κ q b o γ ys)
+        (and-then ! (load ! (from ! (stop !)) (look ! 11 refl)) (no-more !)) (λ v.
+        answered 𝓤 H A mem run κ q b o γ ys ! tt v (λ f ea isf.
         -- [what the fields own; the token; the other tokens; what is passed on; _5; …]
         land ! (from ! (stop !)) (init ! 4 refl (LL.lawful T.the-type T′.the-laws 𝓤 H A W .typed f (v ∷ []) isf .0)) $
         move ! (0 ∷ 3 ∷ []) $ fjoin ! $ move ! (2 ∷ 0 ∷ []) $ use2 W (raw (Covered 𝓤 H A mem run .pre (to f v))) (goes f v) $
         calls-at ! (fmOf 𝓤 H (W .laws) 𝓣) (Covered 𝓤 H A mem run) known (to f v)
-        (and-then ! (load ! (from ! (stop !)) (look ! 2 refl)) (and-then ! (load ! (from ! (stop !)) (look ! 8 refl)) (and-then ! (load ! (from ! (stop !)) (look ! 6 refl))
+        (and-then ! (load ! (from ! (stop !)) (look ! 2 refl)) (and-then ! (load ! (from ! (stop !)) (look ! 8 refl))
+        (and-then ! (load ! (from ! (stop !)) (look ! 6 refl))
         (and-then ! (load ! (from ! (stop !)) (look ! 4 refl)) (no-more !))))) (λ w.
         use1 W (later (some (λ (r : Cursor). (raw Tokens ⊛ ‵ (D.the-row .own r (w ∷ []))) ⊛ raw (Ensures f r)))) (id⊢ 𝓤 _) $ await ! tt $ pick ! (λ r.
         split ! $ move ! (1 ∷ []) $ use1 W (raw (fact 𝓤 (Heard f r))) (said f r) $ heard ! (Heard f r) (λ e.
@@ -182,17 +187,20 @@ module _ {M : Type 1} (𝓤 : URA M) (H : Heap 𝓤) (A : Atoms 𝓤) (W : Given
         land ! (from ! (stop !)) (init ! 13 refl (LL.lawful D.the-type D′.the-laws 𝓤 H A W .typed r _ is .0)) $
         returns ! (look ! 13 refl) $ forget ! 3 refl $ forget ! 5 refl $ forget ! 7 refl $ forget ! 9 refl $ forget ! 11 refl $ forget ! 13 refl $
         move ! (13 ∷ 14 ∷ []) $ free1 ! $ move ! (11 ∷ 12 ∷ []) $ free1 ! $ move ! (9 ∷ 10 ∷ []) $ free1 ! $
-        move ! (7 ∷ 8 ∷ []) $ free1 ! $ move ! (5 ∷ 6 ∷ []) $ free1 ! $ move ! (3 ∷ 4 ∷ []) $ free1 ! $ free0 ! $ by ! (exits r w (enter-told ys f ea (now ends) units full e))))))))))
+        move ! (7 ∷ 8 ∷ []) $ free1 ! $ move ! (5 ∷ 6 ∷ []) $ free1 ! $ move ! (3 ∷ 4 ∷ []) $ free1 ! $ free0 ! $
+        by ! (exits r w (enter-told ys f ea (now ends) units full e))))))))
 
   walk : (𝓣 : Tables 𝓤 H) → Triple 𝓤 (𝓣 .C #take-apart) (TakeApart 𝓤 H A mem run) → Triple 𝓤 (𝓣 .C #covered) (Covered 𝓤 H A mem run)
       → Room R n → Room u64 (length (now ends)) → units < 2 ^ 64
-      → ent 𝓤 (onEntry 𝓤 H A fun.signature (κ, κs) (q, qs) (x, xs) at) (WpFn 𝓤 H (𝓣 .C) (𝓣 .Λ) function (sliceVal (b, o) n ∷ sv ends ∷ vint w64 units ∷ vbool full ∷ []) Post)
+      → ent 𝓤 (onEntry 𝓤 H A fun.signature (κ, κs) (q, qs) (x, xs) at) (WpFn 𝓤 H (𝓣 .C) (𝓣 .Λ) function (sliceVal (b, o) n ∷ sv ends
+      ∷ vint w64 units ∷ vbool full ∷ []) Post)
   walk 𝓣 known-apart known gn ge gu =
       qed W ((‵ (flft κ q) ⊛ raw Tokens) ∷ ‵ (fsep (Own 𝓤 H A mem run κ q b o γ ys) Rest) ∷ []) ∵
       enter ! (𝓣 .C) (𝓣 .Λ) function (sliceVal (b, o) n ∷ sv ends ∷ vint w64 units ∷ vbool full ∷ []) _ $
       alloc1 ! (λ l₀. alloc1 ! (λ l₁. alloc1 ! (λ l₂. alloc1 ! (λ l₃. alloc1 ! (λ l₄. alloc1 ! (λ l₅. alloc0 ! $ params1 ! $
       pass1 ! (init ! 8 refl (tt, (tt, (record { fits = gn .0 }, tt)))) $ pass1 ! (init ! 6 refl (tt, (tt, (record { fits = ge .0 }, tt)))) $
-      pass1 ! (init ! 4 refl (tt, record { fits = gu })) $ pass1 ! (init ! 2 refl (tt, tt)) $ pass0 ! $ by ! (begins 𝓣 known-apart known l₀ l₁ l₂ l₃ l₄ l₅)))))))
+      pass1 ! (init ! 4 refl (tt, record { fits = gu })) $ pass1 ! (init ! 2 refl (tt, tt)) $ pass0 ! $
+      by ! (begins 𝓣 known-apart known l₀ l₁ l₂ l₃ l₄ l₅)))))))
 
 module _ {M : Type 1} (𝓤 : URA M) (H : Heap 𝓤) (A : Atoms 𝓤) (W : Given 𝓤 H A) (mem : Memory → SProp 𝓤) (run : Routine → Fun 𝓤) where
   fun-walks : (𝓣 : Tables 𝓤 H) → Triple 𝓤 (𝓣 .C #take-apart) (TakeApart 𝓤 H A mem run) → Triple 𝓤 (𝓣 .C #covered) (Covered 𝓤 H A mem run)
@@ -202,7 +210,8 @@ module _ {M : Type 1} (𝓤 : URA M) (H : Heap 𝓤) (A : Atoms 𝓤) (W : Given
       (λ κs. (slice-vals, (slice-vals, (uint-vals w64, (bool-vals, tt)))))
       (λ κs. (shr-slice-tells (named 0) (κs .0) R, (shr-slice-tells (named 1) (κs .1 .0) u64, (uint-tells w64, (bool-tells, tt)))))
       (λ κs qs bounds a g are. via 𝓤 _ (fst∗ 𝓤 _ (emp 𝓤))
-      (walk 𝓤 H A W mem run (κs .0) (κs .1) (qs .0) (qs .1) (a .0 .ptr .0) (a .0 .ptr .1) (a .0 .name) (a .0 .now) (a .1 .0) (a .1 .1 .0) (a .1 .1 .1 .0) 𝓣 known-apart known
+      (walk 𝓤 H A W mem run (κs .0) (κs .1) (qs .0) (qs .1) (a .0 .ptr .0) (a .0 .ptr .1) (a .0 .name) (a .0 .now) (a .1 .0) (a .1 .1 .0)
+      (a .1 .1 .1 .0) 𝓣 known-apart known
       (are .0 .0 .1) (are .1 .0 .0 .1) (are .1 .1 .0 .1)))
 
 fun-meets : {M : Type 1} (𝓤 : URA M) (H : Heap 𝓤) (A : Atoms 𝓤) (W : Given 𝓤 H A) (mem : Memory → SProp 𝓤) (run : Routine → Fun 𝓤) (𝓣 : Tables 𝓤 H)
@@ -217,7 +226,8 @@ fun-meets 𝓤 H A W mem run 𝓣 known-apart known =
         (goes-dropped 𝓤 H A W 2 (plain (λ _. u64)) yes (λ κs x f. refl), (goes-dropped 𝓤 H A W 2 (plain (λ _. bool)) yes (λ κs x f. refl), tt)),
       ),
     )
-    (fun.clauses 𝓤 H A mem run) (WpFn 𝓤 H (𝓣 .C) (𝓣 .Λ) function) (WpFn-mono 𝓤 H (W .laws) 𝓣 function) (fun-walks 𝓤 H A W mem run 𝓣 known-apart known))
+    (fun.clauses 𝓤 H A mem run) (WpFn 𝓤 H (𝓣 .C) (𝓣 .Λ) function) (WpFn-mono 𝓤 H (W .laws) 𝓣 function)
+    (fun-walks 𝓤 H A W mem run 𝓣 known-apart known))
 
 pub enter-spec : {M : Type 1} → stated.statement M
 unfolding code.routine tablesOf
@@ -225,5 +235,7 @@ enter-spec 𝓤 H 𝓜 𝓖 𝓡 =
     entered 𝓤 H (tripleOf 𝓤 H (𝓖 .A) fun.signature (fun.spec 𝓤 H (𝓖 .A) (𝓜 .mem) (𝓡 .run)))
     (tables 𝓤 H 𝓜 𝓡 code.env .C) (tables 𝓤 H 𝓜 𝓡 code.env .Λ) #enter code.function (code.unfolded 𝓤 H 𝓜 𝓡)
     (fun-meets 𝓤 H (𝓖 .A) (givenOf 𝓤 H 𝓜 𝓖) (𝓜 .mem) (𝓡 .run) (tablesOf 𝓤 H 𝓜 (tables 𝓤 H 𝓜 𝓡 code.env))
-    (cited 𝓤 H (TakeApart 𝓤 H (𝓖 .A) (𝓜 .mem) (𝓡 .run)) 𝓜 𝓡 code.env #take-apart apart-def.routine code.calls-thin·taking·take-apart (apart-thm.met 𝓤 H 𝓜 𝓖 𝓡))
-    (cited 𝓤 H (Covered 𝓤 H (𝓖 .A) (𝓜 .mem) (𝓡 .run)) 𝓜 𝓡 code.env #covered covered-def.routine code.calls-thin·covered·enter-fields (covered-thm.met 𝓤 H 𝓜 𝓖 𝓡)))
+    (cited 𝓤 H (TakeApart 𝓤 H (𝓖 .A) (𝓜 .mem)
+    (𝓡 .run)) 𝓜 𝓡 code.env #take-apart apart-def.routine code.calls-thin·taking·take-apart (apart-thm.met 𝓤 H 𝓜 𝓖 𝓡))
+    (cited 𝓤 H (Covered 𝓤 H (𝓖 .A) (𝓜 .mem)
+    (𝓡 .run)) 𝓜 𝓡 code.env #covered covered-def.routine code.calls-thin·covered·enter-fields (covered-thm.met 𝓤 H 𝓜 𝓖 𝓡)))

@@ -28,7 +28,9 @@ same-length-2 : tie.Need-same-length-2
 same-length-2 c = search needs
 
 returns-2 : tie.Need-returns-2
-returns-2 c = assign-fits (c .before .before .before .before .before .before .before .before .before .before .before .before .before .if1 .left) (assigned-at (c .before .before .before .before .before .before .before .part32 .ensures) (c .before .before .before .before .before .part322 .ensures) (c .before .before .before .before .assign .ensures))
+returns-2 c = assign-fits (c .before .before .before .before .before .before .before .before .before .before .before .before .before .if1 .left)
+    (assigned-at (c .before .before .before .before .before .before .before .part32 .ensures)
+    (c .before .before .before .before .before .part322 .ensures) (c .before .before .before .before .assign .ensures))
 
 pub assign-fields-spec : {M : Type 1} → statement M
 assign-fields-spec =

@@ -22,7 +22,8 @@ same-length-2 : tie.Need-same-length-2
 same-length-2 c = search needs
 
 returns-2 : tie.Need-returns-2
-returns-2 c = evict-fits (c .before .before .before .before .before .before .before .before .before .before .if1 .left) (evicted-at (c .before .before .before .before .before .part32 .ensures) (c .before .before .before .before .evict .ensures))
+returns-2 c = evict-fits (c .before .before .before .before .before .before .before .before .before .before .if1 .left)
+    (evicted-at (c .before .before .before .before .before .part32 .ensures) (c .before .before .before .before .evict .ensures))
 
 pub evict-fields-spec : {M : Type 1} → statement M
 evict-fields-spec =

@@ -25,7 +25,8 @@ next-requires : tie.Need-next-requires
 next-requires c κs = search needs
 
 returns : tie.Need-returns
-returns c = answered-at (c .before .before .before .before .before .part32 .ensures) (c .before .before .before .part322 .ensures) (c .before .part16 .ensures) (c .next .ensures)
+returns c = answered-at (c .before .before .before .before .before .part32 .ensures) (c .before .before .before .part322 .ensures)
+    (c .before .part16 .ensures) (c .next .ensures)
 
 pub next-in-fields-spec : {M : Type 1} → statement M
 next-in-fields-spec =

@@ -1,8 +1,9 @@
 -- `take_apart` meets its contract: a walk of its MIR, by hand, with a loop whose turn reads a segment and calls `add`. Of `no_fields` and `add` it
 -- knows only that they meet their contracts. The fields so far stand at a machine value that is never opened. Assumes nothing.
 use mathlib.Core.Path.{_≡_, refl, sym, _∙_, ap, subst}
-use mathlib.Core.Bool.{Bool, true, false}
-use lib.Dec.{T as So, ltb, lt→ltb, ltb→lt, lit<}
+use mathlib.Core.Bool.{Bool}
+use lib.Dec.{lit<}
+use borrow.Author.Tests.{lt-ltb, le-ltb}
 use lib.WfN.{Nat·lt-wfRel}
 use native.Mathlib.Numerals.{add-one}
 use lib.Seq.{drop-cons}
@@ -25,9 +26,11 @@ use contract.Monad.{Fun, fact}
 use contract.Running.{givenOf, tables, tablesOf}
 use sound.WpLaws.{fmOf, WpFn-mono}
 use sound.Loop.{loop-rule}
-use types.Kit.{Given, Item, ‵, raw, anyQ, atRet, _⊛_, some, later, ⋆, _$_, _∵_, !, qed, by, move, keep, drop, use0, use1, split, join, pick, rewrite, fsplit, fjoin, suffices, frame, await, done}
+use types.Kit.{Given, Item, ‵, raw, anyQ, atRet, _⊛_, some, later, ⋆, _$_, _∵_, !, qed, by, move, keep, drop, use0, use1, split, join, pick, rewrite}
+use types.Kit.{fsplit, fjoin, suffices, frame, await, done}
 use types.Part.{whole, sub, look-in}
-use types.Run.{look, look-raw, store, assigns-last, stays, leaves-loop, exec, init, forget, stop, hop, fld, from, load, lit, of-opd, bin, and-then, no-more, land}
+use types.Run.{look, look-raw, store, assigns-last, stays, leaves-loop, exec, init, forget, stop, hop, fld, from, load, lit, of-opd, bin, and-then}
+use types.Run.{no-more, land}
 use types.Run.{assigns, returns, enter, alloc1, alloc0, params1, pass1, pass0, free1, free0}
 use denote.Exit.{yes}
 use denote.RattleType.{RattleType, owns}
@@ -77,20 +80,13 @@ Arg = RefT (List ValueSegment) × Unit {0}
 abbrev noSegment : ValueSegment
 noSegment = record { from = 0; to = 0; value = 0 }
 
-holds : (t : Bool) → So t → t ≡ true
-holds true _ = refl
-holds false a = absurd a
-
-fails : (t : Bool) → (So t → ⊥) → t ≡ false
-fails true f = absurd (f tt)
-fails false _ = refl
-
 -- an element's place does not wrap
 scaled : {n i : ℕ} → Room R n → i < n → Fits w64 (i * 12)
 scaled g l = record { fits = omega (arith, g .1) }
 
 -- one segment more, and none left
-one : (f : Fields) (ys : List ValueSegment) (i : ℕ) → i < length ys → takenApart (added f (getD ys i noSegment)) (dropL (i + 1) ys) ≡ takenApart f (dropL i ys)
+one : (f : Fields) (ys : List ValueSegment) (i : ℕ) → i < length ys → takenApart (added f (getD ys i noSegment))
+    (dropL (i + 1) ys) ≡ takenApart f (dropL i ys)
 unfolding takenApart
 one f ys i h = rw (add-one, drop-cons ys i noSegment)
 
@@ -129,7 +125,8 @@ module _ {M : Type 1} (𝓤 : URA M) (H : Heap 𝓤) (A : Atoms 𝓤) (mem : Mem
   abbrev Add : Contract 𝓤
   Add = tripleOf 𝓤 H A add.signature (add.spec 𝓤 H A mem run)
 
-  add-said : (f : Fields) (s : ValueSegment) (r : Fields) → ent 𝓤 (ensured 𝓤 H A add.ended (add.clauses 𝓤 H A mem run) tt (f, (s, tt)) tt r) (fact 𝓤 (r ≡ added f s))
+  add-said : (f : Fields) (s : ValueSegment) (r : Fields) → ent 𝓤 (ensured 𝓤 H A add.ended (add.clauses 𝓤 H A mem run) tt (f, (s, tt)) tt r)
+      (fact 𝓤 (r ≡ added f s))
   add-said f s r = exE 𝓤 _ (λ ws. snd∗ 𝓤 (sem 𝓤 H A (lasts add.ended tt (f, (s, tt)) ws)) (fact 𝓤 (r ≡ added f s)))
 
 module _ {M : Type 1} (𝓤 : URA M) (H : Heap 𝓤) (A : Atoms 𝓤) (W : Given 𝓤 H A) (mem : Memory → SProp 𝓤) (run : Routine → Fun 𝓤)
@@ -152,7 +149,8 @@ module _ {M : Type 1} (𝓤 : URA M) (H : Heap 𝓤) (A : Atoms 𝓤) (W : Given
   exits : (f : Fields) (v : Val) → f ≡ takenApart noFields ys → Is F f (v ∷ []) → ent 𝓤 (⋆ 𝓤 H A (‵ Own ∷ ‵ (flft κ q) ∷ [])) (Post v)
   exits f v e is =
       qed W (‵ Own ∷ ‵ (flft κ q) ∷ []) ∵
-      suffices ! _ (ends-at 𝓤 H A fun.ended stayed (fun.clauses 𝓤 H A mem run) W (((κ, tt), (q, tt), tt, x, at), tt) v f (tt, tt) (tt, tt)) $ says ! e $
+      suffices ! _ (ends-at 𝓤 H A fun.ended stayed (fun.clauses 𝓤 H A mem run) W (((κ, tt), (q, tt), tt, x, at), tt) v f (tt, tt) (tt, tt)) $
+      says ! e $
       move ! (1 ∷ 0 ∷ []) $ nothing ! $ move ! (1 ∷ 0 ∷ []) $ join ! $ nothing ! $ move ! (2 ∷ 0 ∷ []) $ fjoin ! $
       move ! (1 ∷ 0 ∷ []) $ frame ! $ frame ! $ owned ! F (Is F) (LL.makes T.the-type T′.the-plain 𝓤 H A) f (v ∷ []) is $ done !
 
@@ -170,7 +168,8 @@ module _ {M : Type 1} (𝓤 : URA M) (H : Heap 𝓤) (A : Atoms 𝓤) (W : Given
       → ent 𝓤 (sem 𝓤 H A (R .own (getD ys i noSegment) (S′.lowered (getD ys i noSegment) ∷ []))) (Add 𝓤 H A mem run .pre (to-add i f v))
   goes-add i f v is =
       qed W (‵ (R .own (getD ys i noSegment) (S′.lowered (getD ys i noSegment) ∷ [])) ∷ []) ∵
-      nothing ! $ move ! (1 ∷ 0 ∷ []) $ fjoin ! $ owned ! F (Is F) (LL.makes T.the-type T′.the-plain 𝓤 H A) f (v ∷ []) is $ fjoin ! $ nothing ! $ join ! $ frame ! $ done !
+      nothing ! $ move ! (1 ∷ 0 ∷ []) $ fjoin ! $ owned ! F (Is F) (LL.makes T.the-type T′.the-plain 𝓤 H A) f (v ∷ []) is $ fjoin ! $ nothing ! $
+      join ! $ frame ! $ done !
 
   module _ (𝓣 : Tables 𝓤 H) (known : Triple 𝓤 (𝓣 .C #add) (Add 𝓤 H A mem run)) (l₀ l₁ l₂ l₃ l₄ l₅ l₆ l₇ : ℕ) where
     abbrev C : Calls 𝓤 H
@@ -195,7 +194,8 @@ module _ {M : Type 1} (𝓤 : URA M) (H : Heap 𝓤) (A : Atoms 𝓤) (W : Given
     -- what there is once the parameter is passed
     abbrev Entered : List (Item 𝓤)
     Entered = ‵ (froom S′.mir l₇ 0) ∷ ‵ (fdies S′.mir l₇) ∷ ‵ (froom tyPtr l₆ 0) ∷ ‵ (fdies tyPtr l₆) ∷ ‵ (froom tyBool l₅ 0) ∷ ‵ (fdies tyBool l₅)
-        ∷ ‵ (froom (tyInt w64) l₄ 0) ∷ ‵ (fdies (tyInt w64) l₄) ∷ ‵ (froom (tyInt w64) l₃ 0) ∷ ‵ (fdies (tyInt w64) l₃) ∷ ‵ (froom T′.mir l₂ 0) ∷ ‵ (fdies T′.mir l₂)
+        ∷ ‵ (froom (tyInt w64) l₄ 0) ∷ ‵ (fdies (tyInt w64) l₄) ∷ ‵ (froom (tyInt w64) l₃ 0) ∷ ‵ (fdies (tyInt w64) l₃) ∷ ‵ (froom T′.mir l₂ 0)
+        ∷ ‵ (fdies T′.mir l₂)
         ∷ ‵ (fat fullShare slice l₁ 0 (sliceVal (b, o) n)) ∷ ‵ (fdies slice l₁) ∷ ‵ (froom T′.mir l₀ 0) ∷ ‵ (fdies T′.mir l₀)
         ∷ (‵ (flft κ q) ⊛ ‵ ftrue) ∷ ‵ (owns (ShrSlice (named 0) κ R ∷ []) x at) ∷ []
 
@@ -228,15 +228,19 @@ module _ {M : Type 1} (𝓤 : URA M) (H : Heap 𝓤) (A : Atoms 𝓤) (W : Given
     unfolding afterTurn
     more i f v X l isf next =
         qed W (At i v) ∵ exec ! C Λ En code.Mir.turn-1 (anyQ (afterTurn 𝓤 H X Left)) $
-        assigns ! (of-opd ! (load ! (from ! (fld ! refl (stop !))) (look-in ! 8 (sub ! 1 refl (whole !))))) (from ! (stop !)) (init ! 4 refl (tt, record { fits = gn .0 })) $
-        assigns ! (bin ! (load ! (from ! (stop !)) (look ! 3 refl)) (load ! (from ! (stop !)) (look ! 4 refl)) tt) (from ! (stop !)) (init ! 5 refl (tt, tt)) $
-        rewrite ! 5 (λ (t : Bool). ‵ (fat fullShare tyBool l₅ 0 (vbool t))) (holds (ltb i n) (lt→ltb i n l)) refl $
+        assigns ! (of-opd ! (load ! (from ! (fld ! refl (stop !))) (look-in ! 8 (sub ! 1 refl (whole !))))) (from ! (stop !))
+        (init ! 4 refl (tt, record { fits = gn .0 })) $
+        assigns ! (bin ! (load ! (from ! (stop !)) (look ! 3 refl)) (load ! (from ! (stop !)) (look ! 4 refl)) tt) (from ! (stop !))
+        (init ! 5 refl (tt, tt)) $
+        rewrite ! 5 (λ (t : Bool). ‵ (fat fullShare tyBool l₅ 0 (vbool t))) (lt-ltb i n l) refl $
         stays ! (load ! (from ! (stop !)) (look ! 5 refl)) $
         assigns ! (bin ! (load ! (from ! (stop !)) (look ! 3 refl)) (lit ! tt) (scaled gn l)) (from ! (stop !)) (store ! 4 refl (tt, scaled gn l)) $
-        assigns ! (bin ! (load ! (from ! (fld ! refl (stop !))) (look-in ! 8 (sub ! 0 refl (whole !)))) (load ! (from ! (stop !)) (look ! 4 refl)) tt) (from ! (stop !)) (init ! 6 refl (tt, tt)) $
+        assigns ! (bin ! (load ! (from ! (fld ! refl (stop !))) (look-in ! 8 (sub ! 0 refl (whole !)))) (load ! (from ! (stop !))
+        (look ! 4 refl)) tt) (from ! (stop !)) (init ! 6 refl (tt, tt)) $
         rewrite ! 6 (λ (p : ℕ). ‵ (fat fullShare tyPtr l₆ 0 (vptr b p))) (sym (place-is 12 o i)) refl $
         fsplit ! $ move ! (1 ∷ []) $ fsplit ! $ move ! (1 ∷ 3 ∷ []) $
-        looks-slice ! tt R (Is R) (shows 𝓤 H A R) (LL.vals S.the-type S′.the-laws) (LL.tells S.the-type S′.the-laws) (LL.copy S.the-type S′.the-copy 𝓤 H A W) ys b o (λ q′.
+        looks-slice ! tt R (Is R) (shows 𝓤 H A R) (LL.vals S.the-type S′.the-laws) (LL.tells S.the-type S′.the-laws)
+        (LL.copy S.the-type S′.the-copy 𝓤 H A W) ys b o (λ q′.
         elem-out ! R (Is R) (shows 𝓤 H A R) (LL.vals S.the-type S′.the-laws) (LL.tells S.the-type S′.the-laws) q′ ys i noSegment b o l (λ g.
         -- [segments[i]; what it owns; the others; what shuts; the fractured borrow; res; fact; _2; _3; _4; _5; _6; _7; _1; _0; …]
         assigns ! (of-opd ! (load ! (from ! (hop ! (look ! 11 refl) (stop !))) (look-raw ! 0 refl))) (from ! (stop !))
@@ -248,13 +252,15 @@ module _ {M : Type 1} (𝓤 : URA M) (H : Heap 𝓤) (A : Atoms 𝓤) (W : Given
         use1 W (raw (Add 𝓤 H A mem run .pre (to-add i f v))) (goes-add i f v isf) $
         calls-at ! (fmOf 𝓤 H (W .laws) 𝓣) (Add 𝓤 H A mem run) known (to-add i f v)
         (and-then ! (load ! (from ! (stop !)) (look ! 3 refl)) (and-then ! (load ! (from ! (stop !)) (look ! 8 refl)) (no-more !))) (λ u.
-        use1 W (later (some (λ (r : Fields). (‵ ftrue ⊛ ‵ (F .own r (u ∷ []))) ⊛ raw (ensured 𝓤 H A add.ended (add.clauses 𝓤 H A mem run) tt (f, (getD ys i noSegment, tt)) tt r)))) (id⊢ 𝓤 _) $
+        use1 W (later (some (λ (r : Fields). (‵ ftrue ⊛ ‵ (F .own r (u
+        ∷ []))) ⊛ raw (ensured 𝓤 H A add.ended (add.clauses 𝓤 H A mem run) tt (f, (getD ys i noSegment, tt)) tt r)))) (id⊢ 𝓤 _) $
         await ! tt $ pick ! (λ r.
         split ! $ move ! (1 ∷ []) $ use1 W (raw (fact 𝓤 (r ≡ added f (getD ys i noSegment)))) (add-said 𝓤 H A mem run f (getD ys i noSegment) r) $
         heard ! (r ≡ added f (getD ys i noSegment)) (λ e. split ! $ drop ! $
         peeks ! F (Is F) (shows 𝓤 H A F) r (u ∷ []) (λ is.
         land ! (from ! (stop !)) (store ! 3 refl (LL.lawful T.the-type T′.the-laws 𝓤 H A W .typed r (u ∷ []) is .0)) $ drop ! $
-        assigns-last ! (bin ! (load ! (from ! (stop !)) (look ! 3 refl)) (lit ! tt) (next-fits i l)) (from ! (stop !)) (store ! 3 refl (tt, next-fits i l)) $
+        assigns-last ! (bin ! (load ! (from ! (stop !)) (look ! 3 refl)) (lit ! tt) (next-fits i l)) (from ! (stop !))
+        (store ! 3 refl (tt, next-fits i l)) $
         forget ! 4 refl $ forget ! 5 refl $ forget ! 6 refl $ forget ! 7 refl $ by ! (next r u e is)))))))
       where
         next-fits : (i : ℕ) → i < n → Fits w64 (i + 1)
@@ -266,11 +272,14 @@ module _ {M : Type 1} (𝓤 : URA M) (H : Heap 𝓤) (A : Atoms 𝓤) (W : Given
     unfolding afterTurn
     ends i f v X l gi e is =
         qed W (At i v) ∵ exec ! C Λ En code.Mir.turn-1 (anyQ (afterTurn 𝓤 H X Left)) $
-        assigns ! (of-opd ! (load ! (from ! (fld ! refl (stop !))) (look-in ! 8 (sub ! 1 refl (whole !))))) (from ! (stop !)) (init ! 4 refl (tt, record { fits = gn .0 })) $
-        assigns ! (bin ! (load ! (from ! (stop !)) (look ! 3 refl)) (load ! (from ! (stop !)) (look ! 4 refl)) tt) (from ! (stop !)) (init ! 5 refl (tt, tt)) $
-        rewrite ! 5 (λ (t : Bool). ‵ (fat fullShare tyBool l₅ 0 (vbool t))) (fails (ltb i n) (λ p. let z : i < n = ltb→lt i n p in omega arith)) refl $
+        assigns ! (of-opd ! (load ! (from ! (fld ! refl (stop !))) (look-in ! 8 (sub ! 1 refl (whole !))))) (from ! (stop !))
+        (init ! 4 refl (tt, record { fits = gn .0 })) $
+        assigns ! (bin ! (load ! (from ! (stop !)) (look ! 3 refl)) (load ! (from ! (stop !)) (look ! 4 refl)) tt) (from ! (stop !))
+        (init ! 5 refl (tt, tt)) $
+        rewrite ! 5 (λ (t : Bool). ‵ (fat fullShare tyBool l₅ 0 (vbool t))) (le-ltb i n l) refl $
         leaves-loop ! (load ! (from ! (stop !)) (look ! 5 refl)) $ exec ! C Λ En code.Mir.t-4 (atRet En Post) $
-        assigns ! (of-opd ! (load ! (from ! (stop !)) (look ! 2 refl))) (from ! (stop !)) (init ! 9 refl (LL.lawful T.the-type T′.the-laws 𝓤 H A W .typed f (v ∷ []) is .0)) $
+        assigns ! (of-opd ! (load ! (from ! (stop !)) (look ! 2 refl))) (from ! (stop !))
+        (init ! 9 refl (LL.lawful T.the-type T′.the-laws 𝓤 H A W .typed f (v ∷ []) is .0)) $
         returns ! (look ! 9 refl) $ forget ! 2 refl $ forget ! 3 refl $ forget ! 4 refl $ forget ! 5 refl $ forget ! 8 refl $ forget ! 9 refl $
         move ! (9 ∷ 10 ∷ []) $ free1 ! $ move ! (8 ∷ 9 ∷ []) $ free1 ! $ move ! (2 ∷ 8 ∷ []) $ free1 ! $ move ! (2 ∷ 7 ∷ []) $ free1 ! $
         move ! (2 ∷ 6 ∷ []) $ free1 ! $ move ! (2 ∷ 5 ∷ []) $ free1 ! $ move ! (2 ∷ 4 ∷ []) $ free1 ! $ move ! (2 ∷ 3 ∷ []) $ free1 ! $ free0 ! $
@@ -281,7 +290,8 @@ module _ {M : Type 1} (𝓤 : URA M) (H : Heap 𝓤) (A : Atoms 𝓤) (W : Given
         via 𝓤 (Inv t) (has t i f v g)
         (via 𝓤 (guard 𝓤 (t < suc t) (Inv t)) (guardI 𝓤 (t < suc t) (Inv t) (omega arith)) (exI 𝓤 (λ (u : ℕ). guard 𝓤 (u < suc t) (Inv u)) t))
 
-    turn-at : (t i : ℕ) (f : Fields) (v : Val) → Facts t i f v → ent 𝓤 (⋆ 𝓤 H A (At i v)) (Wp 𝓤 H C Λ En code.Mir.turn-1 (afterTurn 𝓤 H (Below t) Left))
+    turn-at : (t i : ℕ) (f : Fields) (v : Val) → Facts t i f v → ent 𝓤 (⋆ 𝓤 H A (At i v))
+        (Wp 𝓤 H C Λ En code.Mir.turn-1 (afterTurn 𝓤 H (Below t) Left))
     turn-at zero i f v g = ends i f v (Below zero) (omega arith) (omega (arith, gn .0)) (g .1) (g .2)
     turn-at (suc t) i f v g =
         more i f v (Below (suc t)) (omega arith) (g .2) (λ r u e is.
@@ -303,8 +313,10 @@ module _ {M : Type 1} (𝓤 : URA M) (H : Heap 𝓤) (A : Atoms 𝓤) (W : Given
         qed W Entered ∵ exec ! C Λ En code.Mir.t-1 (atRet En Post) $
         use0 W (raw (None 𝓤 H A mem run .pre to-none)) goes-none $
         calls-at ! (fmOf 𝓤 H (W .laws) 𝓣) (None 𝓤 H A mem run) known-none to-none (no-more !) (λ v.
-        use1 W (later (some (λ (r : Fields). (‵ ftrue ⊛ ‵ (F .own r (v ∷ []))) ⊛ raw (ensured 𝓤 H A none-at.ended (none-at.clauses 𝓤 H A mem run) tt tt tt r)))) (id⊢ 𝓤 _) $
-        await ! tt $ pick ! (λ f. split ! $ move ! (1 ∷ []) $ use1 W (raw (fact 𝓤 (f ≡ noFields))) (none-said 𝓤 H A mem run f) $ heard ! (f ≡ noFields) (λ e. split ! $ drop ! $
+        use1 W (later (some (λ (r : Fields). (‵ ftrue ⊛ ‵ (F .own r (v
+        ∷ []))) ⊛ raw (ensured 𝓤 H A none-at.ended (none-at.clauses 𝓤 H A mem run) tt tt tt r)))) (id⊢ 𝓤 _) $
+        await ! tt $ pick ! (λ f. split ! $ move ! (1 ∷ []) $ use1 W (raw (fact 𝓤 (f ≡ noFields))) (none-said 𝓤 H A mem run f) $
+        heard ! (f ≡ noFields) (λ e. split ! $ drop ! $
         peeks ! F (Is F) (shows 𝓤 H A F) f (v ∷ []) (λ is.
         land ! (from ! (stop !)) (init ! 11 refl (LL.lawful T.the-type T′.the-laws 𝓤 H A W .typed f (v ∷ []) is .0)) $ drop ! $
         assigns ! (of-opd ! (lit ! tt)) (from ! (stop !)) (init ! 8 refl (tt, record { fits = lit< tt })) $
@@ -314,15 +326,18 @@ module _ {M : Type 1} (𝓤 : URA M) (H : Heap 𝓤) (A : Atoms 𝓤) (W : Given
   walk : (𝓣 : Tables 𝓤 H) → Triple 𝓤 (𝓣 .C #no-fields) (None 𝓤 H A mem run) → Triple 𝓤 (𝓣 .C #add) (Add 𝓤 H A mem run)
       → ent 𝓤 (onEntry 𝓤 H A fun.signature (κ, tt) (q, tt) x at) (WpFn 𝓤 H (𝓣 .C) (𝓣 .Λ) function (sliceVal (b, o) n ∷ []) Post)
   walk 𝓣 known-none known =
-      qed W ((‵ (flft κ q) ⊛ ‵ ftrue) ∷ ‵ (owns (ShrSlice (named 0) κ R ∷ []) x at) ∷ []) ∵ enter ! (𝓣 .C) (𝓣 .Λ) function (sliceVal (b, o) n ∷ []) _ $
-      alloc1 ! (λ l₀. alloc1 ! (λ l₁. alloc1 ! (λ l₂. alloc1 ! (λ l₃. alloc1 ! (λ l₄. alloc1 ! (λ l₅. alloc1 ! (λ l₆. alloc1 ! (λ l₇. alloc0 ! $ params1 ! $
+      qed W ((‵ (flft κ q) ⊛ ‵ ftrue) ∷ ‵ (owns (ShrSlice (named 0) κ R ∷ []) x at) ∷ []) ∵ enter ! (𝓣 .C) (𝓣 .Λ) function (sliceVal (b, o) n
+      ∷ []) _ $
+      alloc1 ! (λ l₀. alloc1 ! (λ l₁. alloc1 ! (λ l₂. alloc1 ! (λ l₃. alloc1 ! (λ l₄. alloc1 ! (λ l₅. alloc1 ! (λ l₆. alloc1 ! (λ l₇. alloc0 ! $
+      params1 ! $
       pass1 ! (init ! 12 refl (tt, (tt, (record { fits = gn .0 }, tt)))) $ pass0 ! $ by ! (begins 𝓣 known l₀ l₁ l₂ l₃ l₄ l₅ l₆ l₇ known-none)))))))))
 
 module _ {M : Type 1} (𝓤 : URA M) (H : Heap 𝓤) (A : Atoms 𝓤) (W : Given 𝓤 H A) (mem : Memory → SProp 𝓤) (run : Routine → Fun 𝓤) where
   fun-walks : (𝓣 : Tables 𝓤 H) → Triple 𝓤 (𝓣 .C #no-fields) (None 𝓤 H A mem run) → Triple 𝓤 (𝓣 .C #add) (Add 𝓤 H A mem run)
       → Walks 𝓤 H A fun.ended stayed (WpFn 𝓤 H (𝓣 .C) (𝓣 .Λ) function) (fun.clauses 𝓤 H A mem run)
   fun-walks 𝓣 known-none known =
-      walked 𝓤 H A fun.ended stayed (fun.clauses 𝓤 H A mem run) (WpFn 𝓤 H (𝓣 .C) (𝓣 .Λ) function) (λ κs. (slice-vals, tt)) (λ κs. (shr-slice-tells (named 0) (κs .0) R, tt))
+      walked 𝓤 H A fun.ended stayed (fun.clauses 𝓤 H A mem run) (WpFn 𝓤 H (𝓣 .C) (𝓣 .Λ) function) (λ κs. (slice-vals, tt))
+      (λ κs. (shr-slice-tells (named 0) (κs .0) R, tt))
       (λ κs qs bounds a g are. via 𝓤 _ (fst∗ 𝓤 _ (emp 𝓤))
       (walk 𝓤 H A W mem run (κs .0) (qs .0) (a .0 .ptr .0) (a .0 .ptr .1) (a .0 .name) (a .0 .now) (are .0 .0 .1) 𝓣 known-none known))
 
