@@ -159,7 +159,7 @@ module _ (j : Job) (p : Premises j) (s : State) (h : Holding) (a : Agrees j s h)
   fold-plain f k [] w b = b
   fold-plain f k (v ∷ vs) w b = fold-plain f k vs (f w v) (k w v b)
 
-  held-plain : (v : ℕ) (o : Option CandidateReg) → heldBy s v ≡ o → Plain (weightOf o)
+  pub held-plain : (v : ℕ) (o : Option CandidateReg) → heldBy s v ≡ o → Plain (weightOf o)
   held-plain v none q = plain-zero
   held-plain v (some c) q = a .holder v c q .1 .plain
 
@@ -169,7 +169,7 @@ module _ (j : Job) (p : Premises j) (s : State) (h : Holding) (a : Agrees j s h)
       fold-plain (λ (w : Float) (v : ℕ). add binary32 w (weightOf (heldBy s v))) (λ w v b. plain-add binary32 w (weightOf (heldBy s v)) b (held-plain v (heldBy s v) refl))
       vs zeroWeight plain-zero
 
-  spill-plain : (v : ℕ) → Plain (spillWeight j v)
+  pub spill-plain : (v : ℕ) → Plain (spillWeight j v)
   unfolding virtReg
   spill-plain v = go (less-equal-greater v (length (j .virtRegs)))
     where

@@ -8,7 +8,7 @@ use mathlib.Core.Bool.{Bool, not}
 use lib.Dec.{T}
 use lib.Ieee.{Float}
 use Rattle.reg_matrix.specs.Lists.{foldl, isSome}
-use Rattle.reg_matrix.proofs.Tests.{both}
+use Rattle.reg_matrix.proofs.Tests.{both, not-some}
 use Rattle.job.specs.Model.{Job}
 use Rattle.job.specs.Load.{Bytes, loaded}
 use Rattle.job.proofs.Premises.{Premises, IsNumber, IsReg}
@@ -81,10 +81,6 @@ module _ (j : Job) (s : State) (g : Good j s) where
   placeable-idle lent v r w k =
       let u = both (not (isSome (heldBy s v))) (not (isLeftOver s v)) (k .unassigned) in
       record { known = k .known; holds-nothing = not-some (heldBy s v) (u .0); stays = u .1 }
-    where
-      not-some : (o : Option CandidateReg) → T (not (isSome o)) → o ≡ none
-      not-some none t = refl
-      not-some (some c) t = absurd t
 
   -- who holds a register is a number that may have it, and the register is one of the job's
   pub holder-good : (v : ℕ) (c : CandidateReg) → heldBy s v ≡ some c → IsNumber j v × Candidate j v c × IsReg j (c .reg)

@@ -9,6 +9,7 @@ use mathlib.Core.Option.{Option, none, some}
 use mathlib.Core.Bool.{Bool, true, false, not, _||_}
 use lib.Dec.{T}
 use lib.Ieee.{Float}
+use lib.Ieee.Bits.{is-false}
 use lib.ListN.{getD, set, length-map, length-set}
 use lib.Seq.{getD-set-same, getD-set-other, ext-getD}
 use Rattle.reg_matrix.specs.Lists.{count}
@@ -43,10 +44,6 @@ set-numbers {A} f g d n v b h =
         ∙ ap (λ (k : ℕ). getD (set fs v (g v)) k d) (sym e)
     at-place i l (no e) = from-zero g d n i l ∙ h i e ∙ sym (from-zero f d n i l) ∙ sym (getD-set-other fs v i (g v) d e)
 
-false-is : (z : Bool) → T (not z) → z ≡ false
-false-is true t = absurd t
-false-is false t = refl
-
 module _ (j : Job) (s : State) (g : Good j s) where
   -- ---- what a record says
 
@@ -64,7 +61,7 @@ module _ (j : Job) (s : State) (g : Good j s) where
 
   pub idle-record : (v : ℕ) → Idle j s v → recordOf s v ≡ Unassigned (flag s v)
   unfolding recordOf
-  idle-record v i = rw (false-is (isLeftOver s v) (i .stays), i .holds-nothing)
+  idle-record v i = rw (is-false (isLeftOver s v) (i .stays), i .holds-nothing)
 
   -- a record stands as assigned exactly where its number holds that
   pub assigned-held : (v : ℕ) (f : Bool) (r : ℕ) (w : Float) → recordOf s v ≡ Assigned f r w → (heldBy s v ≡ some (candidate r w)) × (flag s v ≡ f)
@@ -112,7 +109,7 @@ module _ (j : Job) (s : State) (g : Good j s) where
         changed-record (give j v c f s) v (Assigned (f || flag s v) (c .reg) (c .«preference_weight»)) b
         (λ w n. rw (getD-set-other (s .held) v w (some c) none n, getD-set-other (s .flags) v w (f || flag s v) false n))
         (rw (
-          false-is (isLeftOver s v) k,
+          is-false (isLeftOver s v) k,
           getD-set-same (s .held) v (some c) none (place _ (g .agrees .sizes .held)),
           getD-set-same (s .flags) v (f || flag s v) false (place _ (g .agrees .sizes .flags)),
         ))
@@ -122,7 +119,7 @@ module _ (j : Job) (s : State) (g : Good j s) where
     lose-records r k =
         changed-record (lose j v r s) v (Unassigned (flag s v)) b
         (λ w n. rw (getD-set-other (s .held) v w none none n))
-        (rw (false-is (isLeftOver s v) k, getD-set-same (s .held) v none none (place _ (g .agrees .sizes .held))))
+        (rw (is-false (isLeftOver s v) k, getD-set-same (s .held) v none none (place _ (g .agrees .sizes .held))))
 
     pub leave-records : records (leave v s) ≡ set (records s) v Dead
     unfolding recordOf leave

@@ -40,10 +40,10 @@ unfolding units
 plain-units f q k =
     plain-cond (ltb (q * 2 ^ k) (2 ^ (low f + suc (emax f)))) (odd (suc (prec f)) false q k (low f)) (inf false) (plain-odd (suc (prec f)) q k (low f)) refl
 
-plain-round : (f : Format) (a b : ℕ) → Plain (round f false a b)
+pub plain-round : (f : Format) (a b : ℕ) → Plain (round f false a b)
 plain-round f a b = subst (λ (x : Float). Plain x) (sym (round-is f false a b)) (plain-units f _ _)
 
-signed : true ≡ false → ⊥
+pub signed : true ≡ false → ⊥
 signed q = let z : _≡_ {A = ℕ} 0 1 = cc in omega arith
 
 pub plain-add : (f : Format) (x y : Float) → Plain x → Plain y → Plain (add f x y)

@@ -3,6 +3,7 @@ pub mod Readers
 pub mod Lists
 pub mod Units
 pub mod Weights
+pub mod WeightBits
 pub mod Fields
 pub mod Loads
 pub mod Hex

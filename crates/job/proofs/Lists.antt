@@ -11,6 +11,7 @@ use lib.ListN.{length, getD, length-append}
 use Rattle.reg_matrix.specs.Lists.{filter, any, anyPair, concatMap, foldl}
 use Rattle.reg_matrix.proofs.Tests.{or-left, or-right}
 use Rattle.reg_matrix.proofs.Members.{_∈_, any-in, getD-in}
+use Rattle.job.specs.Layout.{startsFrom}
 
 module _ {A : Type 0} where
   abbrev pub Each : (A → Type 0) → List A → Type 0
@@ -71,6 +72,13 @@ module _ {A B : Type 0} (f : A → List B) where
   unfolding concatMap foldl
   sum-length n [] = sym (add-zero n)
   sum-length n (x ∷ xs) = sum-length (n + length (f x)) xs ∙ omega (arith, length-append (f x) (concatMap f xs))
+
+-- where each list begins and the last ends: one number more than there are lists
+module _ {A : Type 0} (size : A → ℕ) where
+  pub starts-length : (at : ℕ) (xs : List A) → length (startsFrom size at xs) ≡ length xs + 1
+  unfolding startsFrom
+  starts-length at [] = refl
+  starts-length at (x ∷ xs) = omega (arith, starts-length (at + size x) xs)
 
 -- ---- by place
 

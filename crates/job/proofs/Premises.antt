@@ -9,14 +9,14 @@ use lib.Dec.{T}
 use lib.Ieee.{Float, nan, inf, fin}
 use lib.ListN.{length}
 use Rattle.reg_matrix.specs.Refusals.{badSlot}
-use Rattle.reg_matrix.specs.Table.{unitsOf, isUse}
-use Rattle.reg_matrix.specs.Layout.{useValue}
+use Rattle.reg_matrix.specs.Table.{unitsOf}
 use Rattle.reg_matrix.specs.declared.ValueSegment.{ValueSegment}
 use Rattle.reg_matrix.specs.declared.Entry.{Entry}
 use Rattle.reg_matrix.proofs.Members.{_∈_}
 use Rattle.reg_matrix.proofs.Sorted.{Parted}
 use Rattle.reg_matrix.proofs.Chains.{Sound}
 use Rattle.reg_matrix.proofs.Clear.{Segments}
+use Rattle.reg_matrix.proofs.Small.{SmallEntry}
 use Rattle.job.specs.declared.Hint.{Hint}
 use Rattle.job.specs.Model.{VirtReg, Job, virtReg, segmentsOf, unitMap}
 pub use Rattle.job.specs.Model.{Plain}
@@ -31,14 +31,6 @@ abbrev pub Finite : Float → Type 0
 Finite nan = ⊥
 Finite (inf n) = ⊥
 Finite (fin n m e) = n ≡ false
-
-pub record SmallEntry (e : Entry) : Type 0 where
-  pub unit : e .unit < 64
-  pub from : e .from < 2 ^ 32
-  pub to : e .to < 2 ^ 32
-  pub value : useValue (e .reservation) < 2 ^ 16
-  -- a fixed use ends at from + 2
-  pub two : T (isUse (e .reservation)) → e .to ≡ e .from + 2
 
 pub record SmallSegment (s : ValueSegment) : Type 0 where
   pub from : s .from < 2 ^ 32

@@ -159,42 +159,43 @@ module _ (fixed : List Entry) (cs : List Cell) (t : Table) (it : IsTable fixed c
   uncut-on : (u : ℕ) (s : ValueSegment) → Uncut fixed s → Uncut (onUnit u t) s
   uncut-on u s c e m h o = c e (use-fixed s e (onUnit-out u t e m .0) h) h o
 
+  -- a cell whose entry does not overlap a segment lies apart from it
+  pub apart-unless : (d : Cell) (s : ValueSegment) → (T (overlaps s (entryFor fixed d)) → ⊥) → Disjoint (d .s) s
+  unfolding entryFor
+  apart-unless d s hit = go (overlaps-or-not s (entryFor fixed d))
+    where
+      go : T (overlaps s (entryFor fixed d)) ⊎ ((s .to ≤ d .s .from) ⊎ (d .s .to ≤ s .from)) → Disjoint (d .s) s
+      go (inl o) = absurd (hit o)
+      go (inr (inl h)) = inr h
+      go (inr (inr h)) = inl h
+
+  -- a fixed reservation is under a cell, or stands in the table
+  pub under-or-open : (A : Type 0) (e : Entry) → e ∈ fixed → ((d : Cell) → d ∈ cs → T (replaced (d .u) (d .s) e) → A) → (e ∈ t → A) → A
+  under-or-open A e m under stands = go (passes-or-not (any p cs))
+    where
+      p : Cell → Bool
+      p d = replaced (d .u) (d .s) e
+
+      go : T (any p cs) ⊎ T (not (any p cs)) → A
+      go (inl h) = let k = any-out p cs h in under (k .0) (k .1) (k .2)
+      go (inr h) = stands (it .into e (reserved m (λ d n r. T-not (any p cs) h (any-in p r n))))
+
   own-free : (v u : ℕ) (s : ValueSegment) → s .from < s .to → Uncut fixed s → OwnOnly (onUnit u t) s → Free fixed cs (cellOf v u s)
   unfolding entryFor
   own-free v u s n c own = record { nonempty = n; alone = alone; covers = λ e m q o. c e m (owns e m q o) o; owns = owns }
     where
       alone : (d : Cell) → d ∈ cs → d .u ≡ u → Disjoint (d .s) s
-      alone d m q = go (overlaps-or-not s x)
-        where
-          x : Entry
-          x = entryFor fixed d
-
-          hit : T (overlaps s x) → ⊥
-          hit o = own x (onUnit-in u t x (it .into x (cell d m refl)) q) o
-
-          go : T (overlaps s x) ⊎ ((s .to ≤ d .s .from) ⊎ (d .s .to ≤ s .from)) → Disjoint (d .s) s
-          go (inl o) = absurd (hit o)
-          go (inr (inl h)) = inr h
-          go (inr (inr h)) = inl h
+      alone d m q = apart-unless d s (λ o. own (entryFor fixed d) (onUnit-in u t (entryFor fixed d) (it .into (entryFor fixed d) (cell d m refl)) q) o)
 
       owns : (e : Entry) → e ∈ fixed → e .unit ≡ u → T (overlaps s e) → T (ownUse s (e .reservation))
-      owns e m q o = go (passes-or-not (any p cs))
+      owns e m q o =
+          under-or-open (T (ownUse s (e .reservation))) e m
+          (λ d n r. let a = replaced→ (d .u) (d .s) e r in absurd (under d (a .1) (alone d n (sym (a .0) ∙ q))))
+          (λ f. own e (onUnit-in u t e f q) o)
         where
-          p : Cell → Bool
-          p d = replaced (d .u) (d .s) e
-
           under : (d : Cell) → Inside (d .s) e → Disjoint (d .s) s → ⊥
           under d i (inl h) = omega (arith, i .ahead, overlaps→ s e o .1)
           under d i (inr h) = omega (arith, i .after, overlaps→ s e o .0)
-
-          go : T (any p cs) ⊎ T (not (any p cs)) → T (ownUse s (e .reservation))
-          go (inl h) =
-              let k = any-out p cs h in
-              let a = replaced→ (k .0 .u) (k .0 .s) e (k .2) in
-              absurd (under (k .0) (a .1) (alone (k .0) (k .1) (sym (a .0) ∙ q)))
-          go (inr h) =
-              let f : e ∈ t = it .into e (reserved m (λ d n r. T-not (any p cs) h (any-in p r n))) in
-              own e (onUnit-in u t e f q) o
 
   free-own : (v u : ℕ) (s : ValueSegment) → Free fixed cs (cellOf v u s) → OwnOnly (onUnit u t) s
   unfolding entryFor

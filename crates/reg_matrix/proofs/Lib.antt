@@ -14,5 +14,6 @@ pub mod Room
 pub mod Reported
 pub mod Apart
 pub mod Capacity
+pub mod Small
 pub mod Spare
 pub mod Laws

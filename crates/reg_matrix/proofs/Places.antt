@@ -2,13 +2,14 @@
 use Prim.Native.Nat.{ℕ, zero, suc, _+_, _-_, _≤_, _<_}
 use native.Mathlib.Omega.{arith}
 use native.Mathlib.Nat.{zero-add, add-zero, suc-add, add-suc}
+use native.Mathlib.Numerals.{add-one}
 use native.Mathlib.Decide.{decLt}
 use mathlib.Core.Path.{_≡_, refl, sym, ap, ap₂, _∙_}
 use mathlib.Core.List.{List, [], _∷_, _++_, map, append-assoc, List·Memᴰ·head, List·Memᴰ·tail}
-use mathlib.Core.Bool.{Bool, true, false}
+use mathlib.Core.Bool.{Bool, true, false, _||_}
 use lib.ListN.{length, getD, replicate, length-append, length-replicate, List·getD-append, List·getD-eq-default}
 use lib.Seq.{getD-append-add}
-use Rattle.reg_matrix.specs.Lists.{keep, filter, concatMap, count, padded, putBefore, insertBy}
+use Rattle.reg_matrix.specs.Lists.{keep, filter, any, concatMap, count, padded, putBefore, insertBy}
 use Rattle.reg_matrix.proofs.Members.{_∈_}
 
 module _ {A : Type 0} where
@@ -82,6 +83,29 @@ module _ {A B : Type 0} where
   unfolding concatMap
   concat-same f g [] h = refl
   concat-same f g (x ∷ xs) h = ap₂ (λ (k l : List B). k ++ l) (h x (List·Memᴰ·head refl)) (concat-same f g xs (λ y m. h y (List·Memᴰ·tail m)))
+
+-- the numbers from i on, below n: this one and those after it
+pub count-more : (n i : ℕ) → i < n → count i (n - i) ≡ i ∷ count (i + 1) (n - (i + 1))
+unfolding count
+count-more n i h =
+    let k : n - i ≡ suc (n - (i + 1)) = omega arith in
+    rw (k, add-one i)
+
+pub count-end : (n i : ℕ) → n ≤ i → count i (n - i) ≡ []
+unfolding count
+count-end n i h =
+    let k : n - i ≡ 0 = omega arith in
+    rw k
+
+-- a test of them
+module _ (p : ℕ → Bool) (n i : ℕ) where
+  pub any-more : i < n → any p (count i (n - i)) ≡ (p i || any p (count (i + 1) (n - (i + 1))))
+  unfolding any
+  any-more h = rw (count-more n i h)
+
+  pub any-end : n ≤ i → any p (count i (n - i)) ≡ false
+  unfolding any
+  any-end h = rw (count-end n i h)
 
 pub count-length : (v n : ℕ) → length (count v n) ≡ n
 unfolding count

@@ -24,7 +24,7 @@ use Rattle.reg_matrix.proofs.Members.{_∈_, filter-in, any-in, any-out
 use Rattle.reg_matrix.proofs.Cells.{Disjoint, Inside, replaced→, overlaps→, →overlaps, overlaps-or-not, Cell, entryFor, reserved, cell, IsTable, Among}
 use Rattle.reg_matrix.proofs.Chains.{from-first-in, Sound, not-held, uses-nonempty}
 use Rattle.reg_matrix.proofs.Whole.{cells, AllFree, Joins, Rising, joins-units}
-use Rattle.reg_matrix.proofs.Clear.{Segments}
+use Rattle.reg_matrix.proofs.Clear.{Segments, apart-unless, under-or-open}
 
 -- ---- what is reported: us are the fixed uses of a unit, es its entries, and e one of them
 
@@ -172,7 +172,7 @@ module _
   -- no cell that is left meets the segment
   alone : (u : ℕ) → u ∈ unitsOf m → (s : ValueSegment) → s ∈ ss → (d : Cell) → d ∈ left → d .u ≡ u → Disjoint (d .s) s
   unfolding entryFor
-  alone u k s l d n q = go (overlaps-or-not s x)
+  alone u k s l d n q = apart-unless fixed cs t it d s hit
     where
       x : Entry
       x = entryFor fixed d
@@ -184,11 +184,6 @@ module _
           (in-check (d .u) (subst (λ (z : ℕ). z ∈ unitsOf m) (sym q) k) _
           (f .3 .1 _ (held-reported (fixedUses fixed (d .u)) (f .3 .0) (f .0) x (d .v) (fixedIndex fixed (d .u) (d .s) fixed))))
           refl
-
-      go : T (overlaps s x) ⊎ ((s .to ≤ d .s .from) ⊎ (d .s .to ≤ s .from)) → Disjoint (d .s) s
-      go (inl o) = absurd (hit o)
-      go (inr (inl h)) = inr h
-      go (inr (inr h)) = inl h
 
   -- a use under a cell: the cell has an index, and the walk from there meets the use
   under : (u : ℕ) → u ∈ unitsOf m → (s : ValueSegment) → s ∈ ss → (e : Entry) → e ∈ fixed → e .unit ≡ u → T (overlaps s e) → (d : Cell) → d ∈ cs → T (replaced (d .u) (d .s) e) → T (ownUse s (e .reservation))
@@ -255,16 +250,8 @@ module _
           absurd (evictable (sharedPart (f .3 .0) y e Fixed) (in-check u k (sharedPart (f .3 .0) y e Fixed) (f .3 .1 (sharedPart (f .3 .0) y e Fixed) h)) refl)
 
   owns : (u : ℕ) → u ∈ unitsOf m → (s : ValueSegment) → s ∈ ss → (e : Entry) → e ∈ fixed → e .unit ≡ u → T (overlaps s e) → T (ownUse s (e .reservation))
-  owns u k s l e n q o = go (passes-or-not (any p cs))
-    where
-      p : Cell → Bool
-      p d = replaced (d .u) (d .s) e
-
-      go : T (any p cs) ⊎ T (not (any p cs)) → T (ownUse s (e .reservation))
-      go (inl h) = let f = any-out p cs h in under u k s l e n q o (f .0) (f .1) (f .2)
-      go (inr h) =
-          let f : e ∈ t = it .into e (reserved n (λ d c r. T-not (any p cs) h (any-in p r c))) in
-          open-use u k s l e n (onUnit-in u t e f q) o
+  owns u k s l e n q o =
+      under-or-open fixed cs t it (T (ownUse s (e .reservation))) e n (λ d c r. under u k s l e n q o d c r) (λ f. open-use u k s l e n (onUnit-in u t e f q) o)
 
   -- with the reported holders away, the cells of the register are free
   pub room : (v : ℕ) → AllFree fixed left v m ss

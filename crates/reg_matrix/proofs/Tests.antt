@@ -3,8 +3,10 @@ use Prim.Native.Nat.{ℕ, _<_}
 use native.Mathlib.Omega.{arith}
 use mathlib.Core.Path.{_≡_, refl, subst}
 use mathlib.Core.Logic.{_⊎_, inl, inr}
+use mathlib.Core.Option.{Option, none, some}
 use mathlib.Core.Bool.{Bool, true, false, not, _&&_, _||_}
 use lib.Dec.{T, ltb, eqb, ltb→lt, nltb→le, eqb-refl}
+use Rattle.reg_matrix.specs.Lists.{isSome}
 
 pub both : (a b : Bool) → T (a && b) → T a × T b
 both true b t = (tt, t)
@@ -37,6 +39,10 @@ same-test true true f g = refl
 same-test true false f g = absurd (f tt)
 same-test false true f g = absurd (g tt)
 same-test false false f g = refl
+
+pub not-some : {A : Type 0} (o : Option A) → T (not (isSome o)) → o ≡ none
+not-some none t = refl
+not-some (some x) t = absurd t
 
 pub eqb-in : {a b : ℕ} → a ≡ b → T (eqb a b)
 eqb-in {a} q = subst (λ (n : ℕ). T (eqb a n)) q (eqb-refl a)
