@@ -1,10 +1,11 @@
 -- What stands at a place inside does not hang on the default; when a part is empty, and when it is all that was
--- asked for; a loop that stores one number. Assumes nothing.
+-- asked for; stores of two lists; a loop that stores one number. Assumes nothing.
 use Prim.Native.Nat.{ℕ, zero, suc, _+_, _-_, _≤_, _<_}
 use native.Mathlib.Omega.{arith}
 use native.Mathlib.Numerals.{add-one}
-use mathlib.Core.Path.{_≡_, refl}
-use mathlib.Core.List.{List, [], _∷_}
+use native.Mathlib.Nat.{add-zero}
+use mathlib.Core.Path.{_≡_, refl, ap, _∙_}
+use mathlib.Core.List.{List, [], _∷_, _++_}
 use lib.ListN.{length, take, drop, getD, set, replicate}
 use lib.Seq.{sets}
 use borrow.Author.Tests.{lt-leb, le-leb}
@@ -28,6 +29,12 @@ module _ {A : Type 0} (a b : ℕ) (xs : List A) where
   pub past : a ≤ b → length xs < b → part a b xs ≡ []
   unfolding part
   past h l = simp (le-leb _ _ h, lt-leb _ _ l)
+
+-- stores of two lists, one after the other
+module _ {A : Type 0} where
+  pub sets-append : (l : List A) (i : ℕ) (vs ws : List A) → sets l i (vs ++ ws) ≡ sets (sets l i vs) (i + length vs) ws
+  sets-append l i [] ws = rw add-zero
+  sets-append l i (v ∷ vs) ws = sets-append (set l i v) (suc i) vs ws ∙ ap (λ (k : ℕ). sets (sets l i (v ∷ vs)) k ws) (omega arith)
 
 -- a loop that stores d: the rest from here is the whole
 module _ {A : Type 0} (d : A) where

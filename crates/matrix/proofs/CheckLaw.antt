@@ -160,7 +160,7 @@ module _
     use-small u f m =
         let k = fixedUses-out fixed u f m in
         let s = sf f (k .0) in
-        record { unit = s .unit; to = s .to; two = s .use-to (k .2); value = s .value; isuse = use-is (f .reservation) (k .2) }
+        record { unit = s .unit; to = s .to; two = s .two (k .2); value = s .value; isuse = use-is (f .reservation) (k .2) }
 
     pub matrix-walkable : Walkable fixed t
     matrix-walkable =

@@ -32,7 +32,8 @@ use Rattle.reg_matrix.proofs.Evicting.{evict-cell}
 use Rattle.reg_matrix.proofs.Capacity.{capacity, held-index, held-index-fixed}
 use Rattle.matrix.proofs.Placed.{SmallCell, test-false}
 use Rattle.reg_matrix.proofs.Chains.{Chain, chain-drop, Sound, uses-nonempty}
-use Rattle.matrix.proofs.Lying.{SmallFixed, AllSmall, allUses, UsesLie, first-use, use-place, unit-place}
+use Rattle.reg_matrix.proofs.Small.{SmallEntry}
+use Rattle.matrix.proofs.Lying.{AllSmall, allUses, UsesLie, first-use, use-place, unit-place}
 use Rattle.matrix.proofs.Standing.{below-step, below-past, below-none, SmallEnd, SmallEnds, word-small, words-above, Stands, found, insert-stands, insert-length, remove-stands, among-more}
 
 -- ---- what stands before an insertion is sorted if what stands after it is
@@ -145,13 +146,13 @@ use-rest (Held v i) h = absurd h
 use-rest (FixedUse x) h = refl
 use-rest FixedDef h = absurd h
 
-pub inserting-use : (e : Entry) → SmallFixed e → T (isUse (e .reservation)) → (w : Words) → insertingUse (useWord e) w ≡ inserting (endWord e) (restWord e) w
+pub inserting-use : (e : Entry) → SmallEntry e → T (isUse (e .reservation)) → (w : Words) → insertingUse (useWord e) w ≡ inserting (endWord e) (restWord e) w
 unfolding insertingUse
 inserting-use e s h w =
     let a : useWord e / 2 ^ 48 ≡ e .unit = omega (arith, s .from, s .value) in
     let b : useWord e / 2 ^ 16 % 2 ^ 32 ≡ e .from = omega (arith, s .from, s .value) in
     let c : useWord e % 2 ^ 16 ≡ useValue (e .reservation) = omega (arith, s .from, s .value) in
-    let d : e .to ≡ e .from + 2 = s .use-to h in
+    let d : e .to ≡ e .from + 2 = s .two h in
     rw (a, b, c, ← d, ← use-rest (e .reservation) h)
 
 -- uses that start before a point, of a chain: they come first
@@ -180,7 +181,7 @@ module _ (p : ℕ) where
       → drop j uses ≡ map useWord zs ++ r
       → Nonempty zs
       → Chain zs
-      → ((e : Entry) → e ∈ zs → SmallFixed e × T (isUse (e .reservation)))
+      → ((e : Entry) → e ∈ zs → SmallEntry e × T (isUse (e .reservation)))
       → insertingUses (length (filter early zs)) j uses w ≡ insertingAll (filter early zs) w
   unfolding insertingUses insertingAll foldl filter
   inserting-uses [] j uses r w q ne ch h = refl

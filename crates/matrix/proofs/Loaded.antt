@@ -23,7 +23,7 @@ use Rattle.matrix.specs.Moves.{Words, inserting}
 use Rattle.matrix.specs.Placing.{insertingUse}
 use Rattle.matrix.specs.Reserving.{Lain, cleared, reserving, insertingWord}
 use Rattle.matrix.proofs.Standing.{SmallEnd, SmallEnds, Stands}
-use Rattle.matrix.proofs.Lying.{SmallFixed, AllSmall, allUses, UsesLie}
+use Rattle.matrix.proofs.Lying.{AllSmall, allUses, UsesLie}
 use Rattle.matrix.proofs.Evicted.{insertAll-length}
 use Rattle.matrix.proofs.Reserved.{clear-stands, clear-lies, use-stands, def-stands, use-lies, def-lies, uses-few}
 

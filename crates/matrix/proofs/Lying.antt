@@ -19,20 +19,13 @@ use Rattle.reg_matrix.specs.declared.ValueSegment.{ValueSegment}
 use Rattle.reg_matrix.specs.declared.Entry.{Entry}
 use Rattle.reg_matrix.proofs.Members.{_∈_, filter-none, fixedUses-out, concat-out}
 use Rattle.reg_matrix.proofs.Cells.{Nonempty}
+use Rattle.reg_matrix.proofs.Small.{SmallEntry}
 use Rattle.reg_matrix.proofs.Chains.{Chain, Sound, uses-nonempty}
 use Rattle.matrix.proofs.Decode.{rises-append}
 use Rattle.matrix.proofs.Standing.{below-step, below-past, below-none, below-all, below-append, found-padded}
 
--- what loading tested of a reservation: its numbers are small, and a use ends two points on
-pub record SmallFixed (e : Entry) : Type 0 where
-  pub unit : e .unit < 64
-  pub from : e .from < 2 ^ 32
-  pub to : e .to < 2 ^ 32
-  pub value : useValue (e .reservation) < 2 ^ 16
-  pub use-to : T (isUse (e .reservation)) → e .to ≡ e .from + 2
-
 abbrev pub AllSmall : List Entry → Type 0
-AllSmall fixed = (e : Entry) → e ∈ fixed → SmallFixed e
+AllSmall fixed = (e : Entry) → e ∈ fixed → SmallEntry e
 
 -- the fixed uses of all units, as they are laid out
 abbrev pub allUses : List Entry → List Entry
@@ -71,7 +64,7 @@ module _ (fixed : List Entry) (sd : Sound fixed) (sm : AllSmall fixed) where
 
   -- ---- they rise
 
-  unit-rises : (u : ℕ) (us : List Entry) → Nonempty us → Chain us → ((e : Entry) → e ∈ us → (e .unit ≡ u) × SmallFixed e) → Rises (map useWord us)
+  unit-rises : (u : ℕ) (us : List Entry) → Nonempty us → Chain us → ((e : Entry) → e ∈ us → (e .unit ≡ u) × SmallEntry e) → Rises (map useWord us)
   unit-rises u [] ne ch h = tt
   unit-rises u (x ∷ us) ne ch h = (
     (λ y m. let k = Memᴰ·of-map useWord us m in
@@ -104,12 +97,12 @@ module _ (fixed : List Entry) (sd : Sound fixed) (sm : AllSmall fixed) where
   abbrev earlier : ℕ → Entry → Bool
   earlier p e = ltb (e .from) p
 
-  unit-below : (u p : ℕ) (us : List Entry) → ((e : Entry) → e ∈ us → (e .unit ≡ u) × SmallFixed e) → below (useKey u p) (map useWord us) ≡ length (filter (earlier p) us)
+  unit-below : (u p : ℕ) (us : List Entry) → ((e : Entry) → e ∈ us → (e .unit ≡ u) × SmallEntry e) → below (useKey u p) (map useWord us) ≡ length (filter (earlier p) us)
   unfolding below filter
   unit-below u p [] h = refl
   unit-below u p (x ∷ us) h = go (ltb (x .from) p) refl (unit-below u p us (λ e m. h e (List·Memᴰ·tail m)))
     where
-      k : (x .unit ≡ u) × SmallFixed x
+      k : (x .unit ≡ u) × SmallEntry x
       k = h x (List·Memᴰ·head refl)
 
       go :

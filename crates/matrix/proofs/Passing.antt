@@ -4,7 +4,7 @@ use Prim.Native.Nat.{ℕ, suc, _<_, _≤_}
 use mathlib.Core.Path.{_≡_, refl, sym, ap, _∙_}
 use mathlib.Core.Logic.{_⊎_, inl, inr}
 use mathlib.Core.List.{List, [], _∷_, _++_, append-assoc, List·Memᴰ·head, List·Memᴰ·tail}
-use mathlib.Core.Bool.{Bool, true, false, not, _&&_, _||_}
+use mathlib.Core.Bool.{Bool, true, false, not, _&&_, _||_, and-false}
 use lib.Dec.{ltb}
 use borrow.Author.Tests.{lt-ltb, le-ltb}
 use Rattle.reg_matrix.specs.Lists.{keep, filter, any, concatMap}
@@ -17,11 +17,7 @@ use Rattle.reg_matrix.proofs.Members.{_∈_}
 -- ---- where ranges lie
 
 pub ahead : (s : ValueSegment) (e : Entry) → e .to ≤ s .from → overlaps s e ≡ false
-ahead s e h = and-no (ltb (e .from) (s .to)) (ltb (s .from) (e .to)) (le-ltb _ _ h)
-  where
-    and-no : (a b : Bool) → b ≡ false → (a && b) ≡ false
-    and-no true b q = q
-    and-no false b q = refl
+ahead s e h = ap (λ b. ltb (e .from) (s .to) && b) (le-ltb _ _ h) ∙ and-false (ltb (e .from) (s .to))
 
 pub behind : (s : ValueSegment) (e : Entry) → s .to ≤ e .from → overlaps s e ≡ false
 behind s e h = ap (λ b. b && ltb (s .from) (e .to)) (le-ltb _ _ h)
@@ -117,13 +113,9 @@ module _ (full : Bool) (us : List Entry) where
       ∙ (ap (λ l. l ++ checkOn full us (e ∷ es) (suc n) (s ∷ earlier) ss) (row-out n s earlier e es (out h))
       ∙ (ap (λ l. row n s earlier es ++ l) (skip e es (suc n) (s ∷ earlier) ss (later h)) ∙ sym (check-row es n earlier s ss)))
     where
-      and-no : (a b : Bool) → b ≡ false → (a && b) ≡ false
-      and-no true b q = q
-      and-no false b q = refl
-
       out : ((r : ValueSegment) → r ∈ s ∷ ss → overlaps r e ≡ false) ⊎ (counts full earlier e ≡ false) → (overlaps s e && counts full earlier e) ≡ false
       out (inl f) = ap (λ b. b && counts full earlier e) (f s (List·Memᴰ·head refl))
-      out (inr q) = and-no (overlaps s e) (counts full earlier e) q
+      out (inr q) = ap (λ b. overlaps s e && b) q ∙ and-false (overlaps s e)
 
       later :
           ((r : ValueSegment) → r ∈ s ∷ ss → overlaps r e ≡ false) ⊎ (counts full earlier e ≡ false)

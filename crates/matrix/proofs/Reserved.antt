@@ -27,7 +27,8 @@ use Rattle.reg_matrix.proofs.Chains.{Sound}
 use Rattle.reg_matrix.proofs.Places.{filter-append, concat-same}
 use Rattle.matrix.proofs.Shifts.{filled-is}
 use Rattle.matrix.proofs.Standing.{SmallEnds, Stands, room-inserted, insert-stands}
-use Rattle.matrix.proofs.Lying.{SmallFixed, AllSmall, allUses, UsesLie, first-use, use-place, use-count}
+use Rattle.reg_matrix.proofs.Small.{SmallEntry}
+use Rattle.matrix.proofs.Lying.{AllSmall, allUses, UsesLie, first-use, use-place, use-count}
 use Rattle.matrix.proofs.Evicted.{inserting-use, units-split}
 
 -- ---- nothing at first
@@ -86,7 +87,7 @@ module _ (fixed : List Entry) (e : Entry) where
       and-false false h = refl
 
   -- a use that starts after the unit's other uses
-  module _ (isuse : isUse (e .reservation) ≡ true) (sd : Sound fixed) (sf : AllSmall fixed) (se : SmallFixed e) (after : (f : Entry) → f ∈ fixedUses fixed (e .unit) → f .from < e .from) (ut uses : List ℕ) (lie : UsesLie fixed ut uses) (room : length (allUses fixed) < maxFixed) where
+  module _ (isuse : isUse (e .reservation) ≡ true) (sd : Sound fixed) (sf : AllSmall fixed) (se : SmallEntry e) (after : (f : Entry) → f ∈ fixedUses fixed (e .unit) → f .from < e .from) (ut uses : List ℕ) (lie : UsesLie fixed ut uses) (room : length (allUses fixed) < maxFixed) where
     u : ℕ
     u = e .unit
 
@@ -173,7 +174,7 @@ module _ (fixed : List Entry) (e : Entry) where
 
 -- ---- and in the table
 
-module _ (t : Table) (et rt : List ℕ) (w : Words) (st : Stands t et rt w) (so : Sorted t) (sm : SmallEnds t) (room : length t < maxEntries) (e : Entry) (se : SmallFixed e) where
+module _ (t : Table) (et rt : List ℕ) (w : Words) (st : Stands t et rt w) (so : Sorted t) (sm : SmallEnds t) (room : length t < maxEntries) (e : Entry) (se : SmallEntry e) where
   pub use-stands : T (isUse (e .reservation)) → Stands (insert e t) et rt (insertingUse (useWord e) w)
   use-stands h = rw (inserting-use e se h w) (insert-stands t et rt w st so sm room e (record { unit = se .unit; to = se .to }))
 

@@ -23,18 +23,14 @@ use Rattle.reg_matrix.proofs.Members.{_∈_}
 use Rattle.reg_matrix.proofs.Sorted.{Before, before→, →before, Below, below-out, below-in, Sorted}
 use Rattle.matrix.proofs.Halves.{below-length, place-searched}
 pub use Rattle.matrix.proofs.Halves.{none-below as below-none}
+use Rattle.matrix.proofs.Decode.{replicate-in}
 use Rattle.matrix.proofs.Shifts.{inserted-room, removed-room}
 
 -- ---- numbers that rise, and what is behind them
 
-all-replicate : (m d y : ℕ) → y ∈ replicate m d → y ≡ d
-all-replicate zero d y m = elim m [ ]
-all-replicate (suc n) d y (List·Memᴰ·head q) = q
-all-replicate (suc n) d y (List·Memᴰ·tail m) = all-replicate n d y m
-
 rises-replicate : (m d : ℕ) → Rises (replicate m d)
 rises-replicate zero d = tt
-rises-replicate (suc n) d = ((λ y m. let q = all-replicate n d y m in omega (arith, q)), rises-replicate n d)
+rises-replicate (suc n) d = ((λ y m. let q = replicate-in n d y m in omega (arith, q)), rises-replicate n d)
 
 pub rises-padded : (xs : List ℕ) (m d : ℕ) → Rises xs → ((y : ℕ) → y ∈ xs → y < d) → Rises (xs ++ replicate m d)
 rises-padded [] m d r h = rises-replicate m d
@@ -42,7 +38,7 @@ rises-padded (x ∷ xs) m d r h = (first, rises-padded xs m d (r .1) (λ y n. h 
   where
     go : (y : ℕ) → (y ∈ xs) ⊎ (y ∈ replicate m d) → x ≤ y
     go y (inl n) = r .0 y n
-    go y (inr n) = let q = all-replicate m d y n in omega (arith, h x (List·Memᴰ·head refl), q)
+    go y (inr n) = let q = replicate-in m d y n in omega (arith, h x (List·Memᴰ·head refl), q)
 
     first : (y : ℕ) → y ∈ xs ++ replicate m d → x ≤ y
     first y n = go y (List·Memᴰ·append-cases xs n)
@@ -75,7 +71,7 @@ unfolding padded
 found-padded n xs d behind key few r h k =
     let l : length (xs ++ replicate (n - length xs) d) ≡ n = simp (length-append, length-replicate) (omega arith) in
     let e : take n ((xs ++ replicate (n - length xs) d) ++ behind) ≡ xs ++ replicate (n - length xs) d = take-at (xs ++ replicate (n - length xs) d) behind n l in
-    let z : below key (replicate (n - length xs) d) ≡ 0 = below-none key (replicate (n - length xs) d) (λ y m. let q = all-replicate (n - length xs) d y m in omega (arith, q)) in
+    let z : below key (replicate (n - length xs) d) ≡ 0 = below-none key (replicate (n - length xs) d) (λ y m. let q = replicate-in (n - length xs) d y m in omega (arith, q)) in
     let s = place-searched n ((xs ++ replicate (n - length xs) d) ++ behind) key in
     s .counted (omega (arith, l, length-append (xs ++ replicate (n - length xs) d) behind)) (subst Rises (sym e) (rises-padded xs (n - length xs) d r h))
     ∙ ap (below key) e ∙ below-append key xs (replicate (n - length xs) d) ∙ omega (arith, z)

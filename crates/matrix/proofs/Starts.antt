@@ -8,6 +8,7 @@ use mathlib.Core.List.{List, [], _∷_, map, List·Memᴰ·head, List·Memᴰ·t
 use mathlib.Core.Option.{Option, none, some}
 use mathlib.Core.Bool.{Bool, true, false, not, _||_, cond}
 use lib.Dec.{T, ltb, leb, eqb}
+use lib.Ieee.Bits.{is-false}
 use lib.ListN.{length, take, getD, length-take}
 use borrow.Author.Tests.{le-leb, lt-leb, le-ltb, ne-eqb, leb-false, ltb-false}
 use Rattle.reg_matrix.specs.Lists.{isNil}
@@ -118,13 +119,9 @@ passed-ranges past [] p h = refl
 passed-ranges past (s ∷ ss) p h =
     let a : leb (s .to) (s .from) ≡ false = lt-leb (s .to) (s .from) (p .nonempty s (List·Memᴰ·head refl)) in
     let c : ltb (s .from) past ≡ false = le-ltb (s .from) past (p .behind s (List·Memᴰ·head refl)) in
-    let b : (badSlot (s .from) || badSlot (s .to)) ≡ false = false-is (badSlot (s .from) || badSlot (s .to)) (h s (List·Memᴰ·head refl)) in
+    let b : (badSlot (s .from) || badSlot (s .to)) ≡ false = is-false (badSlot (s .from) || badSlot (s .to)) (h s (List·Memᴰ·head refl)) in
     let later : Passed (s .to) ss = record { nonempty = λ x m. p .nonempty x (List·Memᴰ·tail m); rising = p .rising .1; behind = p .rising .0 } in
     rw (a, b, c) (passed-ranges (s .to) ss later (λ x m. h x (List·Memᴰ·tail m)))
-  where
-    false-is : (z : Bool) → T (not z) → z ≡ false
-    false-is true t = absurd t
-    false-is false t = refl
 
 -- ---- segments as three lists of numbers
 

@@ -6,7 +6,7 @@ use native.Mathlib.Omega.{arith}
 use mathlib.Core.Path.{_≡_, refl, sym, ap, _∙_, subst}
 use mathlib.Core.Logic.{_⊎_, inl, inr}
 use mathlib.Core.List.{List, [], _∷_, _++_, map, append-assoc, List·Memᴰ·head, List·Memᴰ·tail, List·Memᴰ·cases-cons, Memᴰ·map}
-use mathlib.Core.Bool.{Bool, true, false, not, _&&_, _||_, cond}
+use mathlib.Core.Bool.{Bool, true, false, not, _&&_, _||_, cond, or-true}
 use lib.Dec.{ltb, eqb, eqb→eq}
 use lib.ListN.{length, take, drop, getD, replicate, length-map}
 use lib.Seq.{drop-nil}
@@ -41,10 +41,6 @@ use Rattle.matrix.proofs.UseWords.{uses-at, back-other, below-front, ta
 use Rattle.matrix.proofs.Decode.{Small, SmallUse, ends-rise, ends-below, rises-append, replicate-in, replicate-rises, map-out, use-back, use-value, drop-next, drop-inside}
 use Rattle.matrix.proofs.Lying.{allUses}
 use Rattle.matrix.proofs.Reading.{Holds, Walkable, entry-here, entry-past, use-here, use-past, step-no-segment, step-no-entry, step-other, step-entry, step-use}
-
-or-true : (b : Bool) → b || true ≡ true
-or-true true = refl
-or-true false = refl
 
 -- ---- the fixed uses under an entry
 
