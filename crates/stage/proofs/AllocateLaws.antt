@@ -18,13 +18,15 @@ use Rattle.matrix.specs.declared.Step.{Step}
 use Rattle.matrix.specs.declared.Step.the-variants.{Report, End}
 use Rattle.allocator.specs.declared.CandidateReg.{CandidateReg}
 use Rattle.allocator.specs.declared.Assignment.{Assignment}
-use Rattle.stage.specs.EvictWalk.{triedOf}
+use Rattle.stage.specs.EvictWalk.{triedBelow}
 use Rattle.stage.specs.declared.evict.Tried.{Tried}
+use Rattle.stage.specs.declared.evict.Limit.{Limit}
 use Rattle.stage.specs.declared.allocate.Best.{Best}
-use Rattle.stage.specs.OrderWalk.{noCandidate, offerAt, offersFrom, Offered, Skip, End as NoMore}
-use Rattle.stage.specs.AllocateWalk.{reportsOn, clearOn, noneOf, availableIn, noBest, triedOn, taking, improves, betterIn, evictIn, prefers, preferIn}
+use Rattle.order.specs.declared.Offer.the-variants.{Reg as Offered, Skip, End as NoMore}
+use Rattle.order.specs.OrderWalk.{noCandidate, offerAt, offersFrom}
+use Rattle.stage.specs.AllocateWalk.{reportsOn, clearOn, noneOf, availableIn, noBest, byCost, byWeight, triedOn, taking, improves, betterIn, evictIn, prefers, preferIn}
 use Rattle.stage.specs.declared.allocate.Available.the-variants.{Clear}
-use Rattle.stage.proofs.OrderLaws.{offers-step}
+use Rattle.order.proofs.OrderLaws.{offers-step}
 
 module _ (W : Lent) (units : ℕ) (c : Cursor) (x : Step) (starts : c ≡ entered (W .ends) (W .froms) units false) (told : remaining W c ≡ heard W x) where
   -- the first report of a check decides whether it is clear
@@ -69,10 +71,10 @@ module _ (W : Lent) (maps : List ℕ) (hs : List CandidateReg) (class : List ℕ
       available-end (rw (a, b))
 
 -- what was tried on the units that were read for a candidate's register
-pub tried-is : (W : Lent) (maps : List ℕ) (rs : List Assignment) (ss : List Float) (c : CandidateReg) (n units : ℕ) (t : Tried)
-    → n ≡ c .reg → units ≡ getD maps n 0 → t ≡ triedOf rs ss (reportsOn W units) → t ≡ triedOn W maps rs ss c
+pub tried-is : (l l′ : Limit) (W : Lent) (maps : List ℕ) (rs : List Assignment) (ss : List Float) (c : CandidateReg) (n units : ℕ) (t : Tried)
+    → l ≡ l′ → n ≡ c .reg → units ≡ getD maps n 0 → t ≡ triedBelow l rs ss (reportsOn W units) → t ≡ triedOn l′ W maps rs ss c
 unfolding triedOn
-tried-is W maps rs ss c n units t p q r = r ∙ rw (q, p)
+tried-is l l′ W maps rs ss c n units t e p q r = r ∙ rw (e, q, p)
 
 -- ---- one candidate of the search for a register to evict from
 
@@ -91,7 +93,7 @@ module _ (W : Lent) (maps : List ℕ) (rs : List Assignment) (ss : List Float) (
       let q : ltb (i - length hs) (length class) ≡ false = le-ltb (i - length hs) (length class) (omega arith) in
       evict-end (rw (p, q))
 
-  module _ (c : CandidateReg) (q : offerAt hs class i ≡ Offered c) (t : Tried) (e : t ≡ triedOn W maps rs ss c) where
+  module _ (c : CandidateReg) (q : offerAt hs class i ≡ Offered c) (t : Tried) (e : t ≡ triedOn (byCost flag own c (b .cost)) W maps rs ss c) where
     better-yes : improves flag own c t (b .cost) ≡ true → taking c t ≡ betterIn W maps rs ss flag own b c
     unfolding betterIn
     better-yes p = subst (λ (u : Tried). taking c t ≡ cond (improves flag own c u (b .cost)) (taking c u) b) e (rw p)
@@ -118,8 +120,8 @@ module _ (W : Lent) (maps : List ℕ) (rs : List Assignment) (ss : List Float) (
   unfolding preferIn
   prefer-end h = rw (drop-of-length-le hs h)
 
-  module _ (h : i < length hs) (c : CandidateReg) (q : c ≡ getD hs i noCandidate) (t : Tried) (e : t ≡ triedOn W maps rs ss c) where
-    hinted-here : preferIn W maps rs ss clear (drop i hs) ≡ cond (prefers clear c (triedOn W maps rs ss c)) (taking c (triedOn W maps rs ss c)) (preferIn W maps rs ss clear (drop (i + 1) hs))
+  module _ (h : i < length hs) (c : CandidateReg) (q : c ≡ getD hs i noCandidate) (t : Tried) (e : t ≡ triedOn (byWeight c) W maps rs ss c) where
+    hinted-here : preferIn W maps rs ss clear (drop i hs) ≡ cond (prefers clear c (triedOn (byWeight c) W maps rs ss c)) (taking c (triedOn (byWeight c) W maps rs ss c)) (preferIn W maps rs ss clear (drop (i + 1) hs))
     unfolding preferIn
     hinted-here = rw (q, add-one, drop-cons hs i noCandidate)
 

@@ -22,8 +22,9 @@ use Rattle.allocator.specs.State.{State, heldBy, weightOf}
 use Rattle.allocator.specs.declared.Assignment.{Assignment}
 use Rattle.allocator.specs.Evict.{cheaper, ruledOut, isFixed, holder, holders, firsts, maxWeight, spillWeight, weights, greatestSpill, costOf}
 use Rattle.allocator.specs.declared.EvictCost.{EvictCost}
-use Rattle.stage.specs.EvictWalk.{recordWeight, noRecord, weightIn, holderCost, zeroCost, tried, onKind, tryReports, triedOf}
+use Rattle.stage.specs.EvictWalk.{recordWeight, noRecord, weightIn, holderCost, zeroCost, tried, onKind, tryReports, triedOf, canWin, withHolder, tryBelow}
 use Rattle.stage.specs.declared.evict.Tried.{Tried}
+use Rattle.stage.specs.declared.evict.Limit.{Limit}
 
 -- of equal preference sums, the spill maximum decides
 pub cheaper-tie : (a b : EvictCost) → lt (a .«preference_weight») (b .«preference_weight») ≡ false → eq (a .«preference_weight») (b .«preference_weight») ≡ true
@@ -217,26 +218,27 @@ module _ (W : Lent) (c : Cursor) (x : Step) (told : remaining W c ≡ heard W x)
   pub next-less : length (remaining W d) < length (remaining W c)
   next-less = rw next-is (omega arith)
 
-module _ (rs : List Assignment) (ss : List Float) (W : Lent) (c : Cursor) (x : Step) (k : EvictCost) (w : Float) (seen : List Bool) (told : remaining W c ≡ heard W x) where
-  pub try-end : x ≡ End → tried k w seen false ≡ tryReports rs ss (remaining W c) k w seen
-  unfolding tryReports
-  try-end q = rw (told, q)
+module _ (l : Limit) (rs : List Assignment) (ss : List Float) (W : Lent) (c : Cursor) (x : Step) (k : EvictCost) (w : Float) (seen : List Bool) (told : remaining W c ≡ heard W x) where
+  pub below-end : x ≡ End → tried k w seen false ≡ tryBelow l rs ss (remaining W c) k w seen
+  unfolding tryBelow
+  below-end q = rw (told, q)
 
   module _ (r : Interference) (d : Cursor) (q : x ≡ Report r d) where
-    pub try-fixed : r .kind ≡ Fixed → tried k w seen true ≡ tryReports rs ss (remaining W c) k w seen
-    unfolding tryReports
-    try-fixed p = rw (next-is W c x told r d q, p)
+    pub below-fixed : r .kind ≡ Fixed → tried k w seen true ≡ tryBelow l rs ss (remaining W c) k w seen
+    unfolding tryBelow
+    below-fixed p = rw (next-is W c x told r d q, p)
 
     module _ (v : ℕ) (p : r .kind ≡ VirtReg v) where
-      pub try-new : ltb v 512 ≡ true → getD seen v false ≡ false
-          → tryReports rs ss (remaining W d) (holderCost rs ss k v) (add binary32 w (weightIn rs v)) (set seen v true) ≡ tryReports rs ss (remaining W c) k w seen
-      unfolding tryReports
-      try-new l n = rw (next-is W c x told r d q, p, l, n)
+      pub below-far : ltb v 512 ≡ false → tryBelow l rs ss (remaining W d) k w seen ≡ tryBelow l rs ss (remaining W c) k w seen
+      unfolding tryBelow
+      below-far h = rw (next-is W c x told r d q, p, h)
 
-      pub try-old : ltb v 512 ≡ true → getD seen v false ≡ true → tryReports rs ss (remaining W d) k (add binary32 w (weightIn rs v)) seen ≡ tryReports rs ss (remaining W c) k w seen
-      unfolding tryReports
-      try-old l n = rw (next-is W c x told r d q, p, l, n)
+      module _ (small : ltb v 512 ≡ true) (k′ : EvictCost) (w′ : Float)
+          (ek : k′ ≡ withHolder k (getD seen v false) (weightIn rs v) (getD ss v zeroWeight)) (ew : w′ ≡ add binary32 w (weightIn rs v)) where
+        pub below-more : canWin l k′ w′ ≡ true → tryBelow l rs ss (remaining W d) k′ w′ (set seen v true) ≡ tryBelow l rs ss (remaining W c) k w seen
+        unfolding tryBelow
+        below-more n = rw (next-is W c x told r d q, p, small, ← ek, ← ew, n)
 
-      pub try-far : ltb v 512 ≡ false → tryReports rs ss (remaining W d) k w seen ≡ tryReports rs ss (remaining W c) k w seen
-      unfolding tryReports
-      try-far l = rw (next-is W c x told r d q, p, l)
+        pub below-stop : canWin l k′ w′ ≡ false → tried k′ w′ (set seen v true) true ≡ tryBelow l rs ss (remaining W c) k w seen
+        unfolding tryBelow
+        below-stop n = rw (next-is W c x told r d q, p, small, ← ek, ← ew, n)

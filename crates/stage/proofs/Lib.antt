@@ -1,5 +1,6 @@
+pub mod WeightOrder
+pub mod StopLaws
 pub mod AllocateLaws
-pub mod OrderLaws
 pub mod QueueLaws
 pub mod EvictLaws
 pub mod Reached

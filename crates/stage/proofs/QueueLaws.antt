@@ -20,49 +20,15 @@ use Rattle.allocator.proofs.Records.{set-numbers}
 use Rattle.job.specs.declared.Hint.{Hint}
 use Rattle.job.specs.Model.{Job, VirtReg, noVirtReg, virtReg}
 use Rattle.job.specs.Layout.{startsFrom, jobBuffers}
+use Rattle.job.proofs.Lists.{starts-length}
 use Rattle.allocator.specs.State.{State, freshState}
 use Rattle.allocator.specs.declared.Stage.{Stage}
 use Rattle.allocator.specs.declared.Stage.the-variants.{Evict, Split}
 use Rattle.allocator.specs.Queue.{encode, Queued, ahead, nextFrom}
 use Rattle.allocator.specs.Layout.{pairMax, rounds, keyWord, queueWords}
-use Rattle.stage.specs.QueueWalk.{Number, keyOf, decoded, playAt, climb, setWord, firstWord, leavesFrom, playFrom, filled, nextNumber}
-
--- ---- one step of each loop
-
-pub climb-more : (n : ℕ) (q : List ℕ) (i : ℕ) → 0 < n → climb (n - 1) (playAt q (i / 2)) (i / 2) ≡ climb n q i
-unfolding climb
-climb-more zero q i h = absurd (omega arith)
-climb-more (suc n) q i h = let e : suc n - 1 ≡ n = omega arith in rw e
-
-pub climb-end : (n : ℕ) (q : List ℕ) (i : ℕ) → n ≤ 0 → climb n q i ≡ q
-unfolding climb
-climb-end zero q i h = refl
-climb-end (suc n) q i h = absurd (omega arith)
-
-pub leaves-more : (f : ℕ → ℕ) (v : ℕ) (q : List ℕ) → v < 512 → leavesFrom f (512 - (v + 1)) (v + 1) (set q (512 + v) (f v)) ≡ leavesFrom f (512 - v) v q
-unfolding leavesFrom
-leaves-more f v q h =
-    let e : 512 - v ≡ suc (512 - (v + 1)) = omega arith in
-    let d : v + 1 ≡ suc v = omega arith in
-    rw (e, d)
-
-pub leaves-end : (f : ℕ → ℕ) (v : ℕ) (q : List ℕ) → 512 ≤ v → leavesFrom f (512 - v) v q ≡ q
-unfolding leavesFrom
-leaves-end f v q h = let e : 512 - v ≡ zero = omega arith in rw e
-
-pub plays-more : (n : ℕ) (q : List ℕ) → 0 < n → playFrom (n - 1) (playAt q n) ≡ playFrom n q
-unfolding playFrom
-plays-more zero q h = absurd (omega arith)
-plays-more (suc n) q h = let e : suc n - 1 ≡ n = omega arith in rw e
-
-pub plays-end : (n : ℕ) (q : List ℕ) → n ≤ 0 → playFrom n q ≡ q
-unfolding playFrom
-plays-end zero q h = refl
-plays-end (suc n) q h = absurd (omega arith)
-
-pub play-length : (q : List ℕ) (i : ℕ) → length (playAt q i) ≡ length q
-unfolding playAt
-play-length q i = length-set q i (max (getD q (2 * i) 0) (getD q (2 * i + 1) 0))
+use Rattle.queue.proofs.Turns.{play-length}
+use Rattle.queue.specs.declared.Next.the-variants.{Number}
+use Rattle.queue.specs.QueueWalk.{keyOf, decoded, playAt, climb, setWord, firstWord, leavesFrom, playFrom, filled, nextNumber}
 
 -- ---- rounds
 
@@ -514,21 +480,12 @@ key-is j v q hints e = rw (e, cond-not (isNil (virtReg j v .hints)) (2 ^ 62) 0)
 -- ---- the queue as loading leaves it
 
 module _ {A : Type 0} where
-  starts-first : (f : A → ℕ) (a : ℕ) (xs : List A) → getD (startsFrom f a xs) 0 0 ≡ a
-  unfolding startsFrom
-  starts-first f a [] = refl
-  starts-first f a (x ∷ xs) = refl
-
   starts-next : (f : A → ℕ) (a : ℕ) (xs : List A) (d : A) (i : ℕ) → i < length xs → getD (startsFrom f a xs) (suc i) 0 ≡ getD (startsFrom f a xs) i 0 + f (getD xs i d)
   unfolding startsFrom
   starts-next f a [] d i h = absurd (omega arith)
-  starts-next f a (x ∷ xs) d zero h = starts-first f (a + f x) xs
+  starts-next f a (x ∷ []) d zero h = refl
+  starts-next f a (x ∷ y ∷ ys) d zero h = refl
   starts-next f a (x ∷ xs) d (suc i) h = starts-next f (a + f x) xs d i (omega arith)
-
-  starts-length : (f : A → ℕ) (a : ℕ) (xs : List A) → length (startsFrom f a xs) ≡ suc (length xs)
-  unfolding startsFrom
-  starts-length f a [] = refl
-  starts-length f a (x ∷ xs) = ap suc (starts-length f (a + f x) xs)
 
   padded-at : (n : ℕ) (d e : A) (xs : List A) (i : ℕ) → i < length xs → getD (padded n d xs) i e ≡ getD xs i e
   unfolding padded

@@ -41,9 +41,7 @@ module _ (j : Job) (s : State) (g : Good j s) where
   heldCells = cellsOf j (g .holding)
 
   pub small-fixed : AllSmall (j .fixed)
-  small-fixed e m =
-      let b = g .premises .small-fixed e m in
-      record { unit = b .unit; from = b .from; to = b .to; value = b .value; use-to = b .two }
+  small-fixed = g .premises .small-fixed
 
   pub small-held : SmallCells heldCells
   small-held c m =

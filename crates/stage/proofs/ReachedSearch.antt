@@ -7,7 +7,8 @@ use mathlib.Core.List.{List, [], _∷_, _++_, map, append-nil, List·Memᴰ·hea
 use mathlib.Core.Option.{Option, none, some}
 use mathlib.Core.Bool.{Bool, true, false, not, _&&_, _||_, cond}
 use lib.Dec.{T}
-use lib.Ieee.{Float, lt, eq}
+use lib.Ieee.{Float, binary32, ofBits, add, lt, eq}
+use lib.Ieee.Bits.{ofBits-fits}
 use lib.ListN.{length, getD, length-map, List·getD-map}
 use Rattle.reg_matrix.specs.Lists.{filter, first, orElse, foldl, count, has, isNil}
 use Rattle.reg_matrix.specs.Check.{check}
@@ -19,7 +20,7 @@ use Rattle.reg_matrix.proofs.Places.{padded-read, from-zero, filter-append, cou
 use Rattle.reg_matrix.proofs.Laws.{report-cell}
 use Rattle.matrix.specs.Walk.{Lent}
 use Rattle.job.specs.Model as model
-use Rattle.job.specs.Model.{Job, virtReg, noVirtReg, classOf, segmentsOf, unitMap, zeroWeight}
+use Rattle.job.specs.Model.{Job, virtReg, noVirtReg, classOf, segmentsOf, unitMap, zeroWeight, Plain}
 use Rattle.job.specs.Layout.{jobBuffers}
 use Rattle.job.proofs.Premises.{IsNumber}
 use Rattle.job.proofs.Lists.{filter-same}
@@ -29,22 +30,23 @@ use Rattle.allocator.specs.declared.CandidateReg.{CandidateReg}
 use Rattle.allocator.specs.declared.EvictCost.{EvictCost}
 use Rattle.allocator.specs.declared.Stage.{Stage}
 use Rattle.allocator.specs.Order.{hintedOrder, order}
-use Rattle.allocator.specs.Evict.{holder, ruledOut, holders, evictees, weights, spillWeight, costOf, allowed, cheaper, Eviction, bestCost, better, tryEvict, preferred}
+use Rattle.allocator.specs.Evict.{holder, ruledOut, holders, firsts, evictees, weights, spillWeight, costOf, allowed, cheaper, Eviction, bestCost, better, tryEvict, preferred}
 use Rattle.allocator.specs.Dequeue.{Decision, leaves, evicteesOf, noneClear, byClear, isClear, byCandidates, decide}
 use Rattle.allocator.proofs.Holders.{cell-out}
 use Rattle.allocator.proofs.Agrees.{last-named}
 use Rattle.allocator.proofs.Decisions.{Candidates, candidates-out, hinted-good, order-good, has-out}
-use Rattle.allocator.proofs.Capacity.{hinted-length}
+use Rattle.allocator.proofs.Capacity.{hinted-length, held-plain, spill-plain}
 use Rattle.allocator.proofs.Rebuilt.{named-known}
 use Rattle.allocator.proofs.Good.{Good}
 use Rattle.allocator.proofs.Records.{held-record}
-use Rattle.stage.specs.EvictWalk.{recordWeight, noRecord, mayEvict, triedOf}
+use Rattle.stage.specs.EvictWalk.{recordWeight, noRecord, weightIn, mayEvict, triedOf}
 use Rattle.stage.specs.AllocateWalk.{reportsOn, clearOn, noneOf, availableIn, noBest, taking, triedOn, improves, betterIn, evictIn, prefers, preferIn}
 use Rattle.stage.specs.declared.evict.Tried.{Tried}
 use Rattle.stage.specs.declared.allocate.Best.{Best}
 use Rattle.stage.specs.declared.allocate.Available.{Available}
 use Rattle.stage.specs.declared.allocate.Available.the-variants.{Clear, NoneClear, NoCandidates}
 use Rattle.stage.proofs.EvictLaws.{Small, rule-out, Found, found}
+use Rattle.stage.proofs.StopLaws.{GoodSum, zero-sum, more-sum, plain-infinite, better-same, preferred-same}
 use Rattle.stage.proofs.Reached.{heldCells, LaidOut, reports-are}
 
 -- ---- candidates
@@ -181,9 +183,9 @@ module _ (j : Job) (s : State) (g : Good j s) (v : ℕ) (b : IsNumber j v) (W : 
   abbrev costs : CandidateReg → EvictCost
   costs c = costOf j s (reported c)
 
-  -- what the code finds in its reports, and the best with it
+  -- what all its reports say, in the code; and the best with it, as far as it may still win
   abbrev tried : CandidateReg → Tried
-  tried c = triedOn W maps rs ss c
+  tried c = triedOf rs ss (reportsOn W (getD maps (c .reg) 0))
 
   abbrev betterHere : Best → CandidateReg → Best
   betterHere = betterIn W maps rs ss (flag s v) (spillWeight j v)
@@ -258,7 +260,6 @@ module _ (j : Job) (s : State) (g : Good j s) (v : ℕ) (b : IsNumber j v) (W : 
 
   -- its cost, the sum at every report and its holders, where no report is fixed
   pub tried-found : (c : CandidateReg) → c .reg < 64 → ruledOut (reported c) ≡ false → FoundOn c
-  unfolding triedOn
   tried-found c h q =
       subst
       (λ (xs : List Interference). Found j s rs ss (held-read j s g maps rs ss S) (spill-read j s g maps rs ss S) (reported c) (triedOf rs ss xs))
@@ -267,7 +268,7 @@ module _ (j : Job) (s : State) (g : Good j s) (v : ℕ) (b : IsNumber j v) (W : 
 
   -- a fixed report rules it out
   pub ruled-out-found : (c : CandidateReg) → c .reg < 64 → tried c .«ruled_out» ≡ ruledOut (reported c)
-  unfolding triedOn triedOf
+  unfolding triedOf
   ruled-out-found c h = go (ruledOut (reported c)) refl
     where
       go : (z : Bool) → ruledOut (reported c) ≡ z → tried c .«ruled_out» ≡ z
@@ -330,12 +331,44 @@ module _ (j : Job) (s : State) (g : Good j s) (v : ℕ) (b : IsNumber j v) (W : 
   best-cost best none q = ap (λ (x : Best). x .cost) q
   best-cost best (some e) q = q .1
 
+  -- the weights that are added and compared
+  held-plain-here : (w : ℕ) → w < 512 → Plain (weightIn rs w)
+  held-plain-here w h =
+      subst (λ (x : Float). Plain x) (sym (held-read j s g maps rs ss S w h)) (held-plain j (g .premises) s (g .holding) (g .agrees) w (heldBy s w) refl)
+
+  spill-plain-here : (w : ℕ) → w < 512 → Plain (getD ss w zeroWeight)
+  spill-plain-here w h =
+      subst (λ (x : Float). Plain x) (sym (spill-read j s g maps rs ss S w h)) (spill-plain j (g .premises) s (g .holding) (g .agrees) w)
+
+  weights-good : (vs : List ℕ) → GoodSum (weights s vs)
+  unfolding weights foldl
+  weights-good vs = go vs zeroWeight zero-sum
+    where
+      go : (vs : List ℕ) (w : Float) → GoodSum w → GoodSum (foldl (λ w v. add binary32 w (weightOf (heldBy s v))) w vs)
+      go [] w b = b
+      go (u ∷ us) w b =
+          go us (add binary32 w (weightOf (heldBy s u))) (more-sum w (weightOf (heldBy s u)) b (held-plain j (g .premises) s (g .holding) (g .agrees) u (heldBy s u) refl))
+
+  best-good : (best : Best) (o : Option Eviction) → BestIs best o → GoodSum (best .cost .«preference_weight»)
+  unfolding costOf
+  best-good best none q =
+      subst (λ (x : Best). GoodSum (x .cost .«preference_weight»)) (sym q) (record { plain = plain-infinite; fits-in = ofBits-fits binary32 0x7F80_0000 })
+  best-good best (some e) q = subst (λ (k : EvictCost). GoodSum (k .«preference_weight»)) (sym (q .0 .cost)) (weights-good (firsts [] (holders (reported (e .to)))))
+
+  -- stopping early changes nothing
+  better-whole : (best : Best) (o : Option Eviction) (c : CandidateReg) → BestIs best o
+      → betterHere best c ≡ cond (improves (flag s v) (spillWeight j v) c (tried c) (best .cost)) (taking c (tried c)) best
+  unfolding betterIn triedOn
+  better-whole best o c q =
+      better-same rs ss held-plain-here spill-plain-here (reportsOn W (getD maps (c .reg) 0)) (flag s v) (spillWeight j v) c best (best-good best o q)
+
   better-is : (best : Best) (o : Option Eviction) (c : CandidateReg) → c .reg < 64 → BestIs best o → BestIs (betterHere best c) (better j s v o c)
-  unfolding betterIn better
+  unfolding better
   better-is best o c h q =
-      subst (λ (z : Bool). BestIs (cond z (taking c (tried c)) best) (better j s v o c))
+      subst (λ (x : Best). BestIs x (better j s v o c)) (sym (better-whole best o c q))
+      (subst (λ (z : Bool). BestIs (cond z (taking c (tried c)) best) (better j s v o c))
       (sym (improves-is c h (best .cost) ∙ ap (improvesBy c) (best-cost best o q)))
-      (go (improvesBy c (bestCost o)) refl)
+      (go (improvesBy c (bestCost o)) refl))
     where
       open-one : (r z : Bool) → (not r && z) ≡ true → r ≡ false
       open-one true z e = absurd (let y : _≡_ {A = ℕ} 0 1 = cc in omega arith)
@@ -382,12 +415,14 @@ module _ (j : Job) (s : State) (g : Good j s) (v : ℕ) (b : IsNumber j v) (W : 
       (clear : CandidateReg) (cs : List CandidateReg)
       → SmallRegs cs
       → PreferredIs (preferIn W maps rs ss clear cs) (first (preferred j s v clear) cs)
-  unfolding preferIn first preferred
+  unfolding preferIn first preferred triedOn
   preferred-found clear [] h = refl
   preferred-found clear (c ∷ cs) h =
-      subst (λ (z : Bool). PreferredIs (cond z (taking c (tried c)) (preferIn W maps rs ss clear cs)) (first (preferred j s v clear) (c ∷ cs)))
+      subst (λ (x : Best). PreferredIs x (first (preferred j s v clear) (c ∷ cs)))
+      (sym (preferred-same rs ss held-plain-here spill-plain-here (reportsOn W (getD maps (c .reg) 0)) clear c (preferIn W maps rs ss clear cs)))
+      (subst (λ (z : Bool). PreferredIs (cond z (taking c (tried c)) (preferIn W maps rs ss clear cs)) (first (preferred j s v clear) (c ∷ cs)))
       (sym (prefers-is clear c (h c (List·Memᴰ·head refl))))
-      (go (preferred j s v clear c) refl (preferred-found clear cs (λ d m. h d (List·Memᴰ·tail m))))
+      (go (preferred j s v clear c) refl (preferred-found clear cs (λ d m. h d (List·Memᴰ·tail m)))))
     where
       not-ruled-out : (a r z : Bool) → (a && (not r && z)) ≡ true → r ≡ false
       not-ruled-out true true z e = absurd (let y : _≡_ {A = ℕ} 0 1 = cc in omega arith)

@@ -13,8 +13,9 @@ use Rattle.allocator.specs.declared.Assignment.{Assignment}
 use Rattle.allocator.specs.Order.{candidate}
 use Rattle.allocator.specs.Evict.{cheaper, infinite}
 use Rattle.allocator.specs.declared.EvictCost.{EvictCost}
-use Rattle.stage.specs.EvictWalk.{mayEvict, triedOf}
+use Rattle.stage.specs.EvictWalk.{mayEvict, zeroCost, triedBelow}
 use Rattle.stage.specs.declared.evict.Tried.{Tried}
+use Rattle.stage.specs.declared.evict.Limit.{Limit}
 use Rattle.stage.specs.declared.allocate.Best.{Best}
 use Rattle.stage.specs.declared.allocate.Available.{Available}
 use Rattle.stage.specs.declared.allocate.Available.the-variants.{Clear, NoneClear, NoCandidates}
@@ -52,21 +53,30 @@ noBest =
 abbrev pub taking : CandidateReg → Tried → Best
 taking c t = record { found = true; to = c; cost = t .cost; holders = t .holders }
 
+-- what the search wants of a candidate for a number with this flag and spill weight, where this is the best cost so far
+abbrev pub byCost : Bool → Float → CandidateReg → EvictCost → Limit
+byCost flag own c best = record { «by_cost» = true; weight = c .«preference_weight»; flag = flag; own = own; best = best }
+
 -- what the check's reports say of a candidate
-unfoldable pub triedOn : Lent → List ℕ → List Assignment → List Float → CandidateReg → Tried
-triedOn W maps rs ss c = triedOf rs ss (reportsOn W (getD maps (c .reg) 0))
+unfoldable pub triedOn : Limit → Lent → List ℕ → List Assignment → List Float → CandidateReg → Tried
+triedOn l W maps rs ss c = triedBelow l rs ss (reportsOn W (getD maps (c .reg) 0))
 
 -- a number's flag and spill weight
 abbrev pub improves : Bool → Float → CandidateReg → Tried → EvictCost → Bool
 improves flag own c t best = not (t .«ruled_out») && (mayEvict (c .«preference_weight») flag (t .cost .«spill_weight») own && cheaper (t .cost) best)
 
 unfoldable pub betterIn : Lent → List ℕ → List Assignment → List Float → Bool → Float → Best → CandidateReg → Best
-betterIn W maps rs ss flag own b c = cond (improves flag own c (triedOn W maps rs ss c) (b .cost)) (taking c (triedOn W maps rs ss c)) b
+betterIn W maps rs ss flag own b c =
+    cond (improves flag own c (triedOn (byCost flag own c (b .cost)) W maps rs ss c) (b .cost)) (taking c (triedOn (byCost flag own c (b .cost)) W maps rs ss c)) b
 
 unfoldable pub evictIn : Lent → List ℕ → List Assignment → List Float → Bool → Float → Best → List CandidateReg → Best
 evictIn W maps rs ss flag own b cs = foldl (betterIn W maps rs ss flag own) b cs
 
 -- ---- the search for a preferred register
+
+-- what it wants of a candidate
+abbrev pub byWeight : CandidateReg → Limit
+byWeight c = record { «by_cost» = false; weight = c .«preference_weight»; flag = false; own = zeroWeight; best = zeroCost }
 
 -- heavier than the clear candidate, and than its holders at every report together
 abbrev pub prefers : CandidateReg → CandidateReg → Tried → Bool
@@ -74,4 +84,5 @@ prefers clear c t = lt (clear .«preference_weight») (c .«preference_weight»)
 
 unfoldable pub preferIn : Lent → List ℕ → List Assignment → List Float → CandidateReg → List CandidateReg → Best
 preferIn W maps rs ss clear [] = noBest
-preferIn W maps rs ss clear (c ∷ cs) = cond (prefers clear c (triedOn W maps rs ss c)) (taking c (triedOn W maps rs ss c)) (preferIn W maps rs ss clear cs)
+preferIn W maps rs ss clear (c ∷ cs) =
+    cond (prefers clear c (triedOn (byWeight c) W maps rs ss c)) (taking c (triedOn (byWeight c) W maps rs ss c)) (preferIn W maps rs ss clear cs)

@@ -13,9 +13,10 @@ use Rattle.job.specs.Model.{zeroWeight}
 use Rattle.allocator.specs.declared.Assignment.{Assignment}
 use Rattle.allocator.specs.declared.Assignment.the-variants.{Assigned, Unassigned, Dead}
 use Rattle.reg_matrix.specs.Lists.{foldl, has}
-use Rattle.allocator.specs.Evict.{maxWeight}
+use Rattle.allocator.specs.Evict.{maxWeight, cheaper}
 use Rattle.allocator.specs.declared.EvictCost.{EvictCost}
 use Rattle.stage.specs.declared.evict.Tried.{Tried}
+use Rattle.stage.specs.declared.evict.Limit.{Limit}
 
 abbrev pub recordWeight : Assignment → Float
 recordWeight (Assigned f r w) = w
@@ -63,3 +64,30 @@ tryReports rs ss (x ∷ xs) k w seen =
 
 unfoldable pub triedOf : List Assignment → List Float → List Interference → Tried
 triedOf rs ss xs = tryReports rs ss xs zeroCost zeroWeight (replicate 512 false)
+
+-- ---- stopped where the candidate can no longer win
+
+-- what a search still wants of a candidate, where it costs k and the sum at every report is w: that its holders may be evicted and cost less than the
+-- best; or that the sum is below its weight
+abbrev pub canWin : Limit → EvictCost → Float → Bool
+canWin l k w = cond (l .«by_cost») (mayEvict (l .weight) (l .flag) (k .«spill_weight») (l .own) && cheaper k (l .best)) (lt w (l .weight))
+
+-- the cost with a holder that was seen before or not
+abbrev pub withHolder : EvictCost → Bool → Float → Float → EvictCost
+withHolder k seen w s = cond seen k (addHolder k w s)
+
+-- the same walk, which ends where the candidate can no longer win; laws in proofs/StopLaws.antt say that this changes nothing
+unfoldable pub tryBelow : Limit → List Assignment → List Float → List Interference → EvictCost → Float → List Bool → Tried
+tryBelow l rs ss [] k w seen = tried k w seen false
+tryBelow l rs ss (x ∷ xs) k w seen =
+    onKind (x .kind) (tried k w seen true)
+    (λ v.
+    cond (ltb v 512)
+    (cond
+    (canWin l (withHolder k (getD seen v false) (weightIn rs v) (getD ss v zeroWeight)) (add binary32 w (weightIn rs v)))
+    (tryBelow l rs ss xs (withHolder k (getD seen v false) (weightIn rs v) (getD ss v zeroWeight)) (add binary32 w (weightIn rs v)) (set seen v true))
+    (tried (withHolder k (getD seen v false) (weightIn rs v) (getD ss v zeroWeight)) (add binary32 w (weightIn rs v)) (set seen v true) true))
+    (tryBelow l rs ss xs k w seen))
+
+unfoldable pub triedBelow : Limit → List Assignment → List Float → List Interference → Tried
+triedBelow l rs ss xs = tryBelow l rs ss xs zeroCost zeroWeight (replicate 512 false)

@@ -1,4 +1,2 @@
-pub mod QueueWalk
 pub mod EvictWalk
 pub mod AllocateWalk
-pub mod OrderWalk

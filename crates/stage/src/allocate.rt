@@ -5,18 +5,16 @@ ghost use mathlib.Core.List.{List};
 ghost use Rattle.reg_matrix.specs.Lists.{isNil};
 ghost use Rattle.matrix.specs.Walk.{lent};
 ghost use Rattle.allocator.specs.declared.CandidateReg.{CandidateReg};
-ghost use Rattle.stage.specs.OrderWalk.{Computed, offersFrom};
-ghost use Rattle.stage.specs.EvictWalk.{triedOf};
-ghost use Rattle.stage.specs.AllocateWalk.{reportsOn, noneOf, availableIn, noBest, improves, evictIn, prefers, preferIn};
+ghost use Rattle.order.specs.OrderWalk.{Computed, offersFrom};
+ghost use Rattle.stage.specs.EvictWalk.{triedBelow};
+ghost use Rattle.stage.specs.AllocateWalk.{reportsOn, noneOf, availableIn, noBest, byCost, improves, evictIn, byWeight, prefers, preferIn};
 ghost use Prim.Native.Nat.{_+_, _≤_};
 ghost use lib.ListN.{length};
+use crate::evict::Limit;
 use crate::evict::Tried;
 use crate::evict::is_cheaper;
 use crate::evict::may_evict;
 use crate::evict::try_reports;
-use crate::order::AllocationOrder;
-use crate::order::Offer;
-use crate::order::candidate;
 use allocator::Assignment;
 use allocator::CandidateReg;
 use allocator::EvictCost;
@@ -25,6 +23,9 @@ use lent::at_float;
 use lent::at8;
 use matrix::Step;
 use matrix::check::enter;
+use order::AllocationOrder;
+use order::Offer;
+use order::candidate;
 
 // The first candidate that is clear; or none is; or there are no candidates.
 pub enum Available {
@@ -115,10 +116,11 @@ pub fn find_available_reg(
     none_of(tried)
 }
 
-// What the check of the segments on a register's units says of evicting its holders.
+// What the check of the segments on a register's units says of evicting its holders, as far as the candidate may still win.
 fn try_on(
     records: [Assignment; 512],
     spills: &[f32],
+    limit: Limit,
     units: u64,
     ends: &[u64],
     rests: &[u64],
@@ -127,10 +129,21 @@ fn try_on(
     tos: &[u32],
     values: &[u16],
 ) -> Tried
-    ensures { λ r. ⌜ r ≡ triedOf records (now (spills .entry)) (reportsOn (lent (now (ends .entry)) (now (rests .entry)) (now (uses .entry)) (now (froms .entry)) (now (tos .entry)) (now (values .entry))) units) ⌝ }
+    ensures { λ r. ⌜ r ≡ triedBelow limit records (now (spills .entry)) (reportsOn (lent (now (ends .entry)) (now (rests .entry)) (now (uses .entry)) (now (froms .entry)) (now (tos .entry)) (now (values .entry))) units) ⌝ }
 {
     let c = enter(ends, froms, units, false);
-    try_reports(records, spills, c, ends, rests, uses, froms, tos, values)
+    try_reports(
+        records,
+        spills,
+        limit,
+        c,
+        ends,
+        rests,
+        uses,
+        froms,
+        tos,
+        values,
+    )
 }
 
 fn none_yet() -> Best
@@ -148,6 +161,19 @@ fn none_yet() -> Best
             spill_weight: infinite,
         },
         holders: [false; 512],
+    }
+}
+
+// What the search for a register to evict from wants of a candidate.
+fn by_cost(flag: bool, own: f32, c: CandidateReg, best: EvictCost) -> Limit
+    ensures { λ r. ⌜ r ≡ byCost flag own c best ⌝ }
+{
+    Limit {
+        by_cost: true,
+        weight: c.preference_weight,
+        flag,
+        own,
+        best,
     }
 }
 
@@ -198,9 +224,11 @@ pub fn try_evict(
             Offer::Skip => {}
             Offer::Reg(c) => {
                 let units = at(maps, wide(c.reg));
+                let so_far = best.cost;
                 let t = try_on(
                     records,
                     spills,
+                    by_cost(flag, own, c, so_far),
                     units,
                     ends,
                     rests,
@@ -209,7 +237,6 @@ pub fn try_evict(
                     tos,
                     values,
                 );
-                let so_far = best.cost;
                 if is_better(flag, own, c, t, so_far) {
                     let cost = t.cost;
                     let holders = t.holders;
@@ -224,6 +251,22 @@ pub fn try_evict(
         }
     }
     best
+}
+
+// What the search for a preferred register wants of a candidate.
+fn by_weight(c: CandidateReg) -> Limit
+    ensures { λ r. ⌜ r ≡ byWeight c ⌝ }
+{
+    Limit {
+        by_cost: false,
+        weight: c.preference_weight,
+        flag: false,
+        own: 0.0,
+        best: EvictCost {
+            preference_weight: 0.0,
+            spill_weight: 0.0,
+        },
+    }
 }
 
 // Whether a candidate is heavier than the clear one, and than its holders at every report together.
@@ -274,6 +317,7 @@ pub fn try_evict_for_preferred_reg(
         let t = try_on(
             records,
             spills,
+            by_weight(c),
             units,
             ends,
             rests,

@@ -1,7 +1,7 @@
 // Costs of an eviction (`evict.rs`): two weights held together and replaced together.
 ghost use mathlib.Core.Path.{_≡_};
 ghost use Rattle.allocator.specs.Evict.{maxWeight, cheaper};
-ghost use Rattle.stage.specs.EvictWalk.{recordWeight, addHolder, mayEvict, triedOf};
+ghost use Rattle.stage.specs.EvictWalk.{recordWeight, addHolder, mayEvict, canWin, withHolder, triedBelow};
 ghost use Rattle.matrix.specs.Walk.{lent, remaining};
 use allocator::Assignment;
 use allocator::EvictCost;
@@ -17,6 +17,16 @@ pub struct Tried {
     pub every_report: f32,
     pub holders: [bool; 512],
     pub ruled_out: bool,
+}
+
+// What a search still wants of a candidate of this weight. By cost: that its holders may be evicted for a number with this flag and spill weight, and
+// cost less than the best so far. Else: that their weights, added at every report, stay below its own.
+pub struct Limit {
+    pub by_cost: bool,
+    pub weight: f32,
+    pub flag: bool,
+    pub own: f32,
+    pub best: EvictCost,
 }
 
 // The weight with which a record holds its register, or 0.
@@ -80,10 +90,36 @@ pub fn may_evict(weight: f32, flag: bool, spill: f32, own: f32) -> bool
     if weight == 0.0 { false } else { true }
 }
 
-// What a check reports from a position on: each holder once for the cost, and at every report for the sum, in the order of the reports.
+// Whether a candidate may still win at this cost and with this sum at every report.
+pub fn can_win(limit: Limit, cost: EvictCost, every_report: f32) -> bool
+    ensures { λ r. ⌜ r ≡ canWin limit cost «every_report» ⌝ }
+{
+    if limit.by_cost {
+        if may_evict(limit.weight, limit.flag, cost.spill_weight, limit.own) {
+            let best = limit.best;
+            return is_cheaper(cost, best);
+        }
+        return false;
+    }
+    every_report < limit.weight
+}
+
+// The cost with a holder more, if it was not seen before.
+fn with_holder(cost: EvictCost, seen: bool, held: f32, spill: f32) -> EvictCost
+    ensures { λ r. ⌜ r ≡ withHolder cost seen held spill ⌝ }
+{
+    if seen {
+        return cost;
+    }
+    add_holder(cost, held, spill)
+}
+
+// What a check reports from a position on: each holder once for the cost, and at every report for the sum, in the order of the reports. It ends where
+// the candidate can no longer win, which rules it out; as weights never fall when they are added, the rest would not help it.
 pub fn try_reports(
     records: [Assignment; 512],
     spills: &[f32],
+    limit: Limit,
     start: Cursor,
     ends: &[u64],
     rests: &[u64],
@@ -92,7 +128,7 @@ pub fn try_reports(
     tos: &[u32],
     values: &[u16],
 ) -> Tried
-    ensures { λ r. ⌜ r ≡ triedOf records (now (spills .entry)) (remaining (lent (now (ends .entry)) (now (rests .entry)) (now (uses .entry)) (now (froms .entry)) (now (tos .entry)) (now (values .entry))) start) ⌝ }
+    ensures { λ r. ⌜ r ≡ triedBelow limit records (now (spills .entry)) (remaining (lent (now (ends .entry)) (now (rests .entry)) (now (uses .entry)) (now (froms .entry)) (now (tos .entry)) (now (values .entry))) start) ⌝ }
 {
     let mut cost = EvictCost {
         preference_weight: 0.0,
@@ -124,10 +160,17 @@ pub fn try_reports(
         if i < 512 {
             let a = records[i];
             let held = held_weight(a);
+            let seen = holders[i];
             every_report = every_report + held;
-            if !holders[i] {
-                holders[i] = true;
-                cost = add_holder(cost, held, at_float(spills, i));
+            cost = with_holder(cost, seen, held, at_float(spills, i));
+            holders[i] = true;
+            if !can_win(limit, cost, every_report) {
+                return Tried {
+                    cost,
+                    every_report,
+                    holders,
+                    ruled_out: true,
+                };
             }
         }
     }

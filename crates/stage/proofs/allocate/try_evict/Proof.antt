@@ -2,12 +2,12 @@
 use borrow.Author.Needs.{needs}
 use Prim.Native.Nat.{_+_, _-_, _≤_}
 use native.Mathlib.Omega.{arith}
-use mathlib.Core.Path.{_≡_, refl, sym, ap, _∙_}
+use mathlib.Core.Path.{_≡_, sym, _∙_}
 use mathlib.Core.List.{List}
 use lib.ListN.{length}
 use Rattle.matrix.specs.Walk.{lent}
 use Rattle.allocator.specs.declared.CandidateReg.{CandidateReg}
-use Rattle.stage.specs.OrderWalk.{Computed, offersFrom}
+use Rattle.order.specs.OrderWalk.{Computed, offersFrom}
 use Rattle.stage.specs.AllocateWalk.{noBest, evictIn}
 use Rattle.stage.proofs.AllocateLaws.{tried-is, evict-end, evict-skip, evict-past, evict-better, evict-not}
 use Rattle.stage.proofs.allocate.try_evict.Statement.{statement}
@@ -55,6 +55,9 @@ wide-requires c κs = search needs
 at-requires : tie.Need-at-requires Inv-loop μ-loop
 at-requires c κs = search needs
 
+by-cost-requires : tie.Need-by-cost-requires Inv-loop μ-loop
+by-cost-requires c κs = search needs
+
 try-on-requires : tie.Need-try-on-requires Inv-loop μ-loop
 try-on-requires c κs = search needs
 
@@ -65,13 +68,13 @@ loop-less-2 : tie.Need-loop-less-2 Inv-loop μ-loop
 loop-less-2 c = search needs
 
 loop-again-2 : tie.Need-loop-again-2 Inv-loop μ-loop
-loop-again-2 c = (omega (arith, c .before .before .before .before .before .before .before .before .before .before .before .before .loop-test .taken), λ hs k b. evict-better _ _ _ _ _ _ hs _ (c .before .before .before .before .before .before .before .before .before .before .before .before .before .loop .i) (c .before .before .before .before .before .before .before .before .before .before .before .before .before .loop .best) _ (sym (c .before .before .before .before .before .before .before .before .before .before .before .candidate .ensures hs k) ∙ c .before .before .before .before .before .before .before .before .before .c .given .1) _ (tried-is _ _ _ _ _ _ _ _ (c .before .before .before .before .before .before .before .wide .ensures) (c .before .before .before .before .before .before .at .ensures) (c .before .before .before .before .before .try-on .ensures)) (sym (c .before .before .before .is-better .ensures) ∙ c .before .before .if1 .taken) ∙ c .before .before .before .before .before .before .before .before .before .before .before .before .before .loop .inv .1 hs k b)
+loop-again-2 c = (omega (arith, c .before .before .before .before .before .before .before .before .before .before .before .before .before .loop-test .taken), λ hs k b. evict-better _ _ _ _ _ _ hs _ (c .before .before .before .before .before .before .before .before .before .before .before .before .before .before .loop .i) (c .before .before .before .before .before .before .before .before .before .before .before .before .before .before .loop .best) _ (sym (c .before .before .before .before .before .before .before .before .before .before .before .before .candidate .ensures hs k) ∙ c .before .before .before .before .before .before .before .before .before .before .c .given .1) _ (tried-is _ _ _ _ _ _ _ _ _ _ (c .before .before .before .before .before .by-cost .ensures) (c .before .before .before .before .before .before .before .before .wide .ensures) (c .before .before .before .before .before .before .before .at .ensures) (c .before .before .before .before .try-on .ensures)) (sym (c .before .before .before .is-better .ensures) ∙ c .before .before .if1 .taken) ∙ c .before .before .before .before .before .before .before .before .before .before .before .before .before .before .loop .inv .1 hs k b)
 
 loop-less-3 : tie.Need-loop-less-3 Inv-loop μ-loop
 loop-less-3 c = search needs
 
 loop-again-3 : tie.Need-loop-again-3 Inv-loop μ-loop
-loop-again-3 c = (omega (arith, c .before .before .before .before .before .before .before .before .before .before .loop-test .taken), λ hs k b. evict-not _ _ _ _ _ _ hs _ (c .before .before .before .before .before .before .before .before .before .before .before .loop .i) (c .before .before .before .before .before .before .before .before .before .before .before .loop .best) _ (sym (c .before .before .before .before .before .before .before .before .before .candidate .ensures hs k) ∙ c .before .before .before .before .before .before .before .c .given .1) _ (tried-is _ _ _ _ _ _ _ _ (c .before .before .before .before .before .wide .ensures) (c .before .before .before .before .at .ensures) (c .before .before .before .try-on .ensures)) (sym (c .before .is-better .ensures) ∙ c .if1 .left) ∙ c .before .before .before .before .before .before .before .before .before .before .before .loop .inv .1 hs k b)
+loop-again-3 c = (omega (arith, c .before .before .before .before .before .before .before .before .before .before .before .loop-test .taken), λ hs k b. evict-not _ _ _ _ _ _ hs _ (c .before .before .before .before .before .before .before .before .before .before .before .before .loop .i) (c .before .before .before .before .before .before .before .before .before .before .before .before .loop .best) _ (sym (c .before .before .before .before .before .before .before .before .before .before .candidate .ensures hs k) ∙ c .before .before .before .before .before .before .before .before .c .given .1) _ (tried-is _ _ _ _ _ _ _ _ _ _ (c .before .before .before .by-cost .ensures) (c .before .before .before .before .before .before .wide .ensures) (c .before .before .before .before .before .at .ensures) (c .before .before .try-on .ensures)) (sym (c .before .is-better .ensures) ∙ c .if1 .left) ∙ c .before .before .before .before .before .before .before .before .before .before .before .before .loop .inv .1 hs k b)
 
 returns-2 : tie.Need-returns-2 Inv-loop μ-loop
 returns-2 c = λ hs k b. evict-past _ _ _ _ _ _ hs _ (c .before .loop .i) _ (omega (arith, c .loop-test .left)) ∙ c .before .loop .inv .1 hs k b
@@ -94,6 +97,7 @@ try-evict-spec =
     enum-known-c
     wide-requires
     at-requires
+    by-cost-requires
     try-on-requires
     is-better-requires
     loop-less-2

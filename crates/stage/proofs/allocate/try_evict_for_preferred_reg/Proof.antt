@@ -7,9 +7,9 @@ use mathlib.Core.List.{List}
 use lib.ListN.{length, drop}
 use Rattle.matrix.specs.Walk.{lent}
 use Rattle.allocator.specs.declared.CandidateReg.{CandidateReg}
-use Rattle.stage.specs.OrderWalk.{Computed}
+use Rattle.order.specs.OrderWalk.{Computed}
 use Rattle.stage.specs.AllocateWalk.{preferIn}
-use Rattle.stage.proofs.OrderLaws.{computed-length, hinted-at}
+use Rattle.order.proofs.OrderLaws.{computed-length, hinted-at}
 use Rattle.stage.proofs.AllocateLaws.{tried-is, prefer-end, prefer-yes, prefer-no}
 use Rattle.stage.proofs.allocate.try_evict_for_preferred_reg.Statement.{statement}
 use Rattle.stage.proofs.allocate.try_evict_for_preferred_reg.Tie as tie
@@ -30,10 +30,7 @@ none-yet-requires : tie.Need-none-yet-requires Inv-loop μ-loop
 none-yet-requires c κs = search needs
 
 returns : tie.Need-returns Inv-loop μ-loop
-returns c =
-    λ hs k b.
-    let l = computed-length _ _ _ hs k in
-    c .none-yet .ensures ∙ prefer-end _ _ _ _ _ hs (c .before .before .before .before .loop .i) (omega (arith, c .before .if1 .taken)) ∙ c .before .before .before .before .loop .inv .1 hs k b
+returns c = λ hs k b. let l = computed-length _ _ _ hs k in c .none-yet .ensures ∙ prefer-end _ _ _ _ _ hs (c .before .before .before .before .loop .i) (omega (arith, c .before .if1 .taken)) ∙ c .before .before .before .before .loop .inv .1 hs k b
 
 at8-requires : tie.Need-at8-requires Inv-loop μ-loop
 at8-requires c κs = search needs
@@ -47,6 +44,9 @@ wide-requires c κs = search needs
 at-requires : tie.Need-at-requires Inv-loop μ-loop
 at-requires c κs = search needs
 
+by-weight-requires : tie.Need-by-weight-requires Inv-loop μ-loop
+by-weight-requires c κs = search needs
+
 try-on-requires : tie.Need-try-on-requires Inv-loop μ-loop
 try-on-requires c κs = search needs
 
@@ -54,21 +54,13 @@ is-preferred-requires : tie.Need-is-preferred-requires Inv-loop μ-loop
 is-preferred-requires c κs = search needs
 
 returns-2 : tie.Need-returns-2 Inv-loop μ-loop
-returns-2 c =
-    λ hs k b.
-    let l = computed-length _ _ _ hs k in
-    prefer-yes _ _ _ _ _ hs (c .before .before .before .before .before .before .before .before .before .before .before .before .loop .i) (omega (arith, c .before .before .before .before .before .before .before .before .before .if1 .left)) _ (rw (c .before .before .before .before .before .before .before .before .at8 .ensures, c .before .before .before .before .before .before .before .at-float .ensures) (sym (hinted-at _ _ _ hs k (c .before .before .before .before .before .before .before .before .before .before .before .before .loop .i) (c .before .before .before .before .before .before .before .before .before .if1 .left)))) _ (tried-is _ _ _ _ _ _ _ _ (c .before .before .before .before .before .before .wide .ensures) (c .before .before .before .before .before .at .ensures) (c .before .before .before .before .try-on .ensures)) (sym (c .before .before .before .is-preferred .ensures) ∙ c .before .before .if2 .taken) ∙ c .before .before .before .before .before .before .before .before .before .before .before .before .loop .inv .1 hs k b
+returns-2 c = λ hs k b. let l = computed-length _ _ _ hs k in prefer-yes _ _ _ _ _ hs (c .before .before .before .before .before .before .before .before .before .before .before .before .before .loop .i) (omega (arith, c .before .before .before .before .before .before .before .before .before .before .if1 .left)) _ (rw (c .before .before .before .before .before .before .before .before .before .at8 .ensures, c .before .before .before .before .before .before .before .before .at-float .ensures) (sym (hinted-at _ _ _ hs k (c .before .before .before .before .before .before .before .before .before .before .before .before .before .loop .i) (c .before .before .before .before .before .before .before .before .before .before .if1 .left)))) _ (tried-is _ _ _ _ _ _ _ _ _ _ (c .before .before .before .before .before .by-weight .ensures) (c .before .before .before .before .before .before .before .wide .ensures) (c .before .before .before .before .before .before .at .ensures) (c .before .before .before .before .try-on .ensures)) (sym (c .before .before .before .is-preferred .ensures) ∙ c .before .before .if2 .taken) ∙ c .before .before .before .before .before .before .before .before .before .before .before .before .before .loop .inv .1 hs k b
 
 loop-less : tie.Need-loop-less Inv-loop μ-loop
 loop-less c = search needs
 
 loop-again : tie.Need-loop-again Inv-loop μ-loop
-loop-again c = (
-  omega (arith, c .before .before .before .before .before .before .before .before .before .loop-test .taken),
-  λ hs k b.
-      let l = computed-length _ _ _ hs k in
-      prefer-no _ _ _ _ _ hs (c .before .before .before .before .before .before .before .before .before .before .loop .i) (omega (arith, c .before .before .before .before .before .before .before .if1 .left)) _ (rw (c .before .before .before .before .before .before .at8 .ensures, c .before .before .before .before .before .at-float .ensures) (sym (hinted-at _ _ _ hs k (c .before .before .before .before .before .before .before .before .before .before .loop .i) (c .before .before .before .before .before .before .before .if1 .left)))) _ (tried-is _ _ _ _ _ _ _ _ (c .before .before .before .before .wide .ensures) (c .before .before .before .at .ensures) (c .before .before .try-on .ensures)) (sym (c .before .is-preferred .ensures) ∙ c .if2 .left) ∙ c .before .before .before .before .before .before .before .before .before .before .loop .inv .1 hs k b,
-)
+loop-again c = (omega (arith, c .before .before .before .before .before .before .before .before .before .before .loop-test .taken), λ hs k b. let l = computed-length _ _ _ hs k in prefer-no _ _ _ _ _ hs (c .before .before .before .before .before .before .before .before .before .before .before .loop .i) (omega (arith, c .before .before .before .before .before .before .before .before .if1 .left)) _ (rw (c .before .before .before .before .before .before .before .at8 .ensures, c .before .before .before .before .before .before .at-float .ensures) (sym (hinted-at _ _ _ hs k (c .before .before .before .before .before .before .before .before .before .before .before .loop .i) (c .before .before .before .before .before .before .before .before .if1 .left)))) _ (tried-is _ _ _ _ _ _ _ _ _ _ (c .before .before .before .by-weight .ensures) (c .before .before .before .before .before .wide .ensures) (c .before .before .before .before .at .ensures) (c .before .before .try-on .ensures)) (sym (c .before .is-preferred .ensures) ∙ c .if2 .left) ∙ c .before .before .before .before .before .before .before .before .before .before .before .loop .inv .1 hs k b)
 
 none-yet-requires-2 : tie.Need-none-yet-requires-2 Inv-loop μ-loop
 none-yet-requires-2 c κs = search needs
@@ -90,6 +82,7 @@ try-evict-for-preferred-reg-spec =
     at-float-requires
     wide-requires
     at-requires
+    by-weight-requires
     try-on-requires
     is-preferred-requires
     returns-2

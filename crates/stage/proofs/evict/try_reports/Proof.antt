@@ -1,24 +1,23 @@
 -- The invariant: the walk over the reports still to come, from the cost and the holders so far, finds what the whole walk finds. Assumes nothing.
 use borrow.Author.Needs.{needs}
 use Prim.Native.Nat.{_<_}
-use native.Mathlib.Omega.{arith}
 use mathlib.Core.Path.{_≡_, refl, sym, _∙_}
-use lib.ListN.{length, length-set, length-replicate}
+use lib.ListN.{length, length-set}
 use borrow.Author.Tests.{lt-ltb, le-ltb, not-true, not-false}
 use Rattle.matrix.specs.Walk.{lent, remaining}
-use Rattle.stage.specs.EvictWalk.{tryReports, triedOf}
-use Rattle.stage.proofs.EvictLaws.{next-less, try-end, try-fixed, try-new, try-old, try-far}
+use Rattle.stage.specs.EvictWalk.{tryBelow, triedBelow}
+use Rattle.stage.proofs.EvictLaws.{next-less, below-end, below-fixed, below-more, below-stop, below-far}
 use Rattle.stage.proofs.evict.try_reports.Statement.{statement}
 use Rattle.stage.proofs.evict.try_reports.Tie as tie
 
 abbrev Inv-loop : tie.InvT-loop
-Inv-loop spills ends rests uses froms tos values records cost₀ every-report₀ holders₀ c₀ cost every-report holders c = (length holders ≡ 512) × (tryReports records spills (remaining (lent ends rests uses froms tos values) c) cost every-report holders ≡ triedOf records spills (remaining (lent ends rests uses froms tos values) c₀))
+Inv-loop spills limit ends rests uses froms tos values records cost₀ every-report₀ holders₀ c₀ cost every-report holders c = (length holders ≡ 512) × (tryBelow limit records spills (remaining (lent ends rests uses froms tos values) c) cost every-report holders ≡ triedBelow limit records spills (remaining (lent ends rests uses froms tos values) c₀))
 
 abbrev μ-loop : tie.MeasureT-loop
-μ-loop spills ends rests uses froms tos values records cost₀ every-report₀ holders₀ c₀ cost every-report holders c = length (remaining (lent ends rests uses froms tos values) c)
+μ-loop spills limit ends rests uses froms tos values records cost₀ every-report₀ holders₀ c₀ cost every-report holders c = length (remaining (lent ends rests uses froms tos values) c)
 
 loop-holds : tie.Need-loop-holds Inv-loop μ-loop
-unfolding triedOf
+unfolding triedBelow
 loop-holds c = (refl, refl)
 
 next-requires : tie.Need-next-requires Inv-loop μ-loop
@@ -31,7 +30,7 @@ enum-told : tie.Need-enum-told Inv-loop μ-loop
 enum-told c = search needs
 
 returns : tie.Need-returns Inv-loop μ-loop
-returns c = try-end _ _ _ _ _ _ _ _ (c .before .before .next .ensures .told) (c .enum-told .given .1) ∙ c .before .before .before .loop .inv .1
+returns c = below-end _ _ _ _ _ _ _ _ _ (c .before .before .next .ensures .told) (c .enum-told .given .1) ∙ c .before .before .before .loop .inv .1
 
 enum-known-kind : tie.Need-enum-known-kind Inv-loop μ-loop
 enum-known-kind c = search needs
@@ -40,7 +39,7 @@ enum-told-2 : tie.Need-enum-told-2 Inv-loop μ-loop
 enum-told-2 c = search needs
 
 returns-2 : tie.Need-returns-2 Inv-loop μ-loop
-returns-2 c = try-fixed _ _ _ _ _ _ _ _ (c .before .before .before .before .before .next .ensures .told) _ _ (c .before .before .before .report .given .1) (c .enum-told2 .given .1) ∙ c .before .before .before .before .before .before .loop .inv .1
+returns-2 c = below-fixed _ _ _ _ _ _ _ _ _ (c .before .before .before .before .before .next .ensures .told) _ _ (c .before .before .before .report .given .1) (c .enum-told2 .given .1) ∙ c .before .before .before .before .before .before .loop .inv .1
 
 cast-i : tie.Need-cast-i Inv-loop μ-loop
 cast-i c = search needs
@@ -54,35 +53,35 @@ array-copy-out-a c = search needs
 held-weight-requires : tie.Need-held-weight-requires Inv-loop μ-loop
 held-weight-requires c κs = search needs
 
-array-read-if2 : tie.Need-array-read-if2 Inv-loop μ-loop
-array-read-if2 c = search needs
-
-array-write-holders : tie.Need-array-write-holders Inv-loop μ-loop
-array-write-holders c = search needs
+array-read-seen : tie.Need-array-read-seen Inv-loop μ-loop
+array-read-seen c = search needs
 
 at-float-requires : tie.Need-at-float-requires Inv-loop μ-loop
 at-float-requires c κs = search needs
 
-add-holder-requires : tie.Need-add-holder-requires Inv-loop μ-loop
-add-holder-requires c κs = search needs
+with-holder-requires : tie.Need-with-holder-requires Inv-loop μ-loop
+with-holder-requires c κs = search needs
+
+array-write-holders : tie.Need-array-write-holders Inv-loop μ-loop
+array-write-holders c = search needs
+
+can-win-requires : tie.Need-can-win-requires Inv-loop μ-loop
+can-win-requires c κs = search needs
+
+returns-3 : tie.Need-returns-3 Inv-loop μ-loop
+returns-3 c = below-stop _ _ _ _ _ _ _ _ _ (c .before .before .before .before .before .before .before .before .before .before .before .before .before .next .ensures .told) _ _ (c .before .before .before .before .before .before .before .before .before .before .before .report .given .1) _ (c .before .before .before .before .before .before .before .before .kind .given .1) (lt-ltb _ _ (c .before .before .before .before .before .before .if1 .taken)) _ _ (c .before .before .with-holder .ensures ∙ rw (c .before .before .before .before .held-weight .ensures, c .before .before .before .at-float .ensures)) (rw (c .before .before .before .before .held-weight .ensures)) (sym (c .before .can-win .ensures) ∙ not-true _ (c .if2 .taken)) ∙ c .before .before .before .before .before .before .before .before .before .before .before .before .before .before .loop .inv .1
 
 loop-less : tie.Need-loop-less Inv-loop μ-loop
-loop-less c = next-less _ _ _ (c .before .before .before .before .before .before .before .before .before .before .before .before .next .ensures .told) _ _ (c .before .before .before .before .before .before .before .before .before .before .report .given .1)
+loop-less c = next-less _ _ _ (c .before .before .before .before .before .before .before .before .before .before .before .before .before .next .ensures .told) _ _ (c .before .before .before .before .before .before .before .before .before .before .before .report .given .1)
 
 loop-again : tie.Need-loop-again Inv-loop μ-loop
-loop-again c = (simp length-set (c .before .before .before .before .before .before .before .before .before .before .before .before .before .loop .inv .0), rw (c .add-holder .ensures, c .before .at-float .ensures, c .before .before .before .held-weight .ensures) (try-new _ _ _ _ _ _ _ _ (c .before .before .before .before .before .before .before .before .before .before .before .before .next .ensures .told) _ _ (c .before .before .before .before .before .before .before .before .before .before .report .given .1) _ (c .before .before .before .before .before .before .before .kind .given .1) (lt-ltb _ _ (c .before .before .before .before .before .if1 .taken)) (not-true _ (c .before .before .if2 .taken)) ∙ c .before .before .before .before .before .before .before .before .before .before .before .before .before .loop .inv .1))
+loop-again c = (simp length-set (c .before .before .before .before .before .before .before .before .before .before .before .before .before .before .loop .inv .0), below-more _ _ _ _ _ _ _ _ _ (c .before .before .before .before .before .before .before .before .before .before .before .before .before .next .ensures .told) _ _ (c .before .before .before .before .before .before .before .before .before .before .before .report .given .1) _ (c .before .before .before .before .before .before .before .before .kind .given .1) (lt-ltb _ _ (c .before .before .before .before .before .before .if1 .taken)) _ _ (c .before .before .with-holder .ensures ∙ rw (c .before .before .before .before .held-weight .ensures, c .before .before .before .at-float .ensures)) (rw (c .before .before .before .before .held-weight .ensures)) (sym (c .before .can-win .ensures) ∙ not-false _ (c .if2 .left)) ∙ c .before .before .before .before .before .before .before .before .before .before .before .before .before .before .loop .inv .1)
 
 loop-less-2 : tie.Need-loop-less-2 Inv-loop μ-loop
-loop-less-2 c = next-less _ _ _ (c .before .before .before .before .before .before .before .before .before .before .next .ensures .told) _ _ (c .before .before .before .before .before .before .before .before .report .given .1)
+loop-less-2 c = next-less _ _ _ (c .before .before .before .before .before .before .before .next .ensures .told) _ _ (c .before .before .before .before .before .report .given .1)
 
 loop-again-2 : tie.Need-loop-again-2 Inv-loop μ-loop
-loop-again-2 c = (c .before .before .before .before .before .before .before .before .before .before .before .loop .inv .0, rw (c .before .held-weight .ensures) (try-old _ _ _ _ _ _ _ _ (c .before .before .before .before .before .before .before .before .before .before .next .ensures .told) _ _ (c .before .before .before .before .before .before .before .before .report .given .1) _ (c .before .before .before .before .before .kind .given .1) (lt-ltb _ _ (c .before .before .before .if1 .taken)) (not-false _ (c .if2 .left)) ∙ c .before .before .before .before .before .before .before .before .before .before .before .loop .inv .1))
-
-loop-less-3 : tie.Need-loop-less-3 Inv-loop μ-loop
-loop-less-3 c = next-less _ _ _ (c .before .before .before .before .before .before .before .next .ensures .told) _ _ (c .before .before .before .before .before .report .given .1)
-
-loop-again-3 : tie.Need-loop-again-3 Inv-loop μ-loop
-loop-again-3 c = (c .before .before .before .before .before .before .before .before .loop .inv .0, try-far _ _ _ _ _ _ _ _ (c .before .before .before .before .before .before .before .next .ensures .told) _ _ (c .before .before .before .before .before .report .given .1) _ (c .before .before .kind .given .1) (le-ltb _ _ (c .if1 .left)) ∙ c .before .before .before .before .before .before .before .before .loop .inv .1)
+loop-again-2 c = (c .before .before .before .before .before .before .before .before .loop .inv .0, below-far _ _ _ _ _ _ _ _ _ (c .before .before .before .before .before .before .before .next .ensures .told) _ _ (c .before .before .before .before .before .report .given .1) _ (c .before .before .kind .given .1) (le-ltb _ _ (c .if1 .left)) ∙ c .before .before .before .before .before .before .before .before .loop .inv .1)
 
 pub try-reports-spec : {M : Type 1} → statement M
 try-reports-spec =
@@ -102,13 +101,13 @@ try-reports-spec =
     mul-a
     array-copy-out-a
     held-weight-requires
-    array-read-if2
-    array-write-holders
+    array-read-seen
     at-float-requires
-    add-holder-requires
+    with-holder-requires
+    array-write-holders
+    can-win-requires
+    returns-3
     loop-less
     loop-again
     loop-less-2
-    loop-again-2
-    loop-less-3
-    loop-again-3)
+    loop-again-2)
