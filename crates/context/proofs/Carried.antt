@@ -18,6 +18,7 @@ use Rattle.allocator.specs.State.{State, heldBy, isLeftOver, flag, isUnassigned
 use Rattle.allocator.specs.Layout.{StateBuffers, queueWords, lastWords}
 use Rattle.allocator.specs.Calls.{named}
 use Rattle.job.proofs.Premises.{IsNumber}
+use Rattle.reg_matrix.proofs.Tests.{both}
 use Rattle.reg_matrix.proofs.Places.{from-zero}
 use Rattle.allocator.specs.Dequeue.{Decision, leaves, takes, splits, fails, decide, stateOf, evictAll, carryOut, dequeue}
 use Rattle.allocator.specs.Reached.{Reached}
@@ -25,10 +26,13 @@ use Rattle.allocator.proofs.Runs.{evictAll-keeps}
 use Rattle.allocator.proofs.Good.{Good, Idle, Taking, good-reached, queued-idle, takes-good, reached-evict-all}
 use Rattle.allocator.proofs.Records.{give-records, leave-records, requeue-records, leave-last, requeue-last}
 use Rattle.stage.specs.EvictWalk.{noRecord}
-use Rattle.stage.specs.QueueWalk.{keyOf, setWord}
+use Rattle.queue.specs.QueueWalk.{keyOf, setWord}
 use Rattle.context.specs.Standing.{Moves, Stands}
-use Rattle.context.specs.Deciding.{Fate, Leaves, Takes, Evicts, Splits, Fails, Decided, members, decisionBy, decisionOf, flagIn, givenRecord}
-use Rattle.context.specs.Carrying.{EvictReads, TakeReads, EvictedAll, Taken, CarriedOut}
+use Rattle.decisions.specs.declared.Fate.{Fate}
+use Rattle.decisions.specs.declared.Fate.the-variants.{Leaves, Takes, Evicts, Splits, Fails}
+use Rattle.decisions.specs.declared.Decided.{Decided}
+use Rattle.decisions.specs.Deciding.{members, decisionBy, decisionOf, flagIn, givenRecord}
+use Rattle.context.specs.Carrying.{EvictReads, TakeReads, EvictedAll, Taken, Settled, CarriedOut}
 use Rattle.context.proofs.CarryLaws.{unqueued, queued-at}
 
 -- a decision by the fate
@@ -60,6 +64,34 @@ same-last j v r s = refl
 took : (j : Job) (s : State) (v : ℕ) (c : CandidateReg) (f : Bool) (vs : List ℕ) → stateOf (carryOut j s v (takes c f vs)) ≡ give j v c f (evictAll j vs s)
 unfolding carryOut
 took j s v c f vs = refl
+
+-- ---- a register is taken and recorded
+
+module _ (d : Decided) (v : ℕ) (rs : List Assignment) (maps uses sets starts froms tos ends rests queue last : List ℕ) where
+  -- a number above 511 is none of the job's
+  pub settled-nobody : 512 ≤ v → Settled d v rs maps uses sets starts froms tos ends rests queue last rs ends rests queue last
+  settled-nobody h = record { reached = λ j s t reach k st is known free names clear. absurd (omega (arith, h, known, good-reached j s reach .premises .few-numbers)) }
+
+  pub settled :
+      (ends′ rests′ queue′ last′ : List ℕ)
+      → Taken v (d .to .reg) maps uses sets starts froms tos ends rests queue last ends′ rests′ queue′ last′
+      → (a : Assignment)
+      → a ≡ givenRecord (d .flag) (getD rs v noRecord) (d .to)
+      → Settled d v rs maps uses sets starts froms tos ends rests queue last (set rs v a) ends′ rests′ queue′ last′
+  settled ends′ rests′ queue′ last′ tk a pr =
+      record {
+        reached =
+            λ j s t reach k st is known free names clear.
+            let g = good-reached j s reach in
+            let stays = both (not (isSome (heldBy s v))) (not (isLeftOver s v)) free .1 in (
+              tk .reached j s t reach k st known free names clear (d .to) (d .flag) refl,
+              ap (set rs v) pr ∙ ap (λ (l : List Assignment). set l v (givenRecord (d .flag) (getD l v noRecord) (d .to))) is
+                  ∙ ap (λ (b : Bool). set (records s) v (Holds (d .flag || b) (d .to .reg) (d .to .«preference_weight»))) (flag-read j s g v known stays)
+                  ∙ sym (give-records j s g v known (d .to) (d .flag) stays),
+            );
+      }
+
+-- ---- a decision
 
 module _ (d : Decided) (v : ℕ) (rs : List Assignment) (maps uses sets sizes hints starts froms tos ends rests queue last : List ℕ) where
   abbrev Out : List Assignment → List ℕ → List ℕ → List ℕ → List ℕ → Type 0
@@ -146,62 +178,34 @@ module _ (d : Decided) (v : ℕ) (rs : List Assignment) (maps uses sets sizes hi
         λ is. is ∙ sym (requeue-records j s g v (i .known) none),
       ))
 
-  -- a register is taken on the state x that evictions left
-  gives :
-      (j : Job) (s x : State) (t : StateBuffers) (rs₁ : List Assignment) (ends₁ rests₁ queue₁ ends′ rests′ queue′ last′ : List ℕ)
-      → Reached j x
-      → TakeReads j maps uses sets starts froms tos
-      → Stands j x t ends₁ rests₁ queue₁ last
-      → Idle j x v
-      → T (named j v (d .to .reg))
-      → checkOf j x v (d .to .reg) ≡ []
-      → Taken v (d .to .reg) maps uses sets starts froms tos ends₁ rests₁ queue₁ last ends′ rests′ queue′ last′
-      → Stands j (give j v (d .to) (d .flag) x) t ends′ rests′ queue′ last′
-  gives j s x t rs₁ ends₁ rests₁ queue₁ ends′ rests′ queue′ last′ reach k st i names clear tk =
-      tk .reached j x t reach k st (i .known) (idle-unassigned j x v i) names clear (d .to) (d .flag) refl
-
-  -- and recorded
-  recorded :
-      (j : Job) (x : State) → Reached j x → Idle j x v → (rs₁ rs′ : List Assignment)
-      → rs₁ ≡ records x
-      → rs′ ≡ set rs₁ v (givenRecord (d .flag) (getD rs₁ v noRecord) (d .to))
-      → rs′ ≡ records (give j v (d .to) (d .flag) x)
-  recorded j x reach i rs₁ rs′ is pr =
-      let g = good-reached j x reach in
-      pr ∙ ap (λ (l : List Assignment). set l v (givenRecord (d .flag) (getD l v noRecord) (d .to))) is
-      ∙ ap (λ (b : Bool). set (records x) v (Holds (d .flag || b) (d .to .reg) (d .to .«preference_weight»))) (flag-read j x g v (i .known) (i .stays))
-      ∙ sym (give-records j x g v (i .known) (d .to) (d .flag) (i .stays))
-
   -- a clear register is taken
   pub carried-takes :
       d .fate ≡ Takes
-      → (ends′ rests′ queue′ last′ : List ℕ)
-      → Taken v (d .to .reg) maps uses sets starts froms tos ends rests queue last ends′ rests′ queue′ last′
-      → (a : Assignment)
-      → a ≡ givenRecord (d .flag) (getD rs v noRecord) (d .to)
-      → Out (set rs v a) ends′ rests′ queue′ last′
-  unfolding carryOut evictAll foldl
-  carried-takes x ends′ rests′ queue′ last′ tk b pr =
-      outcome (set rs v b) ends′ rests′ queue′ last′
-      (λ j s t q reach g i e k st dec.
-      let a = takes-good j s g v i q (d .to) (d .flag) [] (sym dec ∙ ap (λ (z : Fate). decisionBy z d) x) in (
-        give j v (d .to) (d .flag) s,
-        by-fate d Takes (takes (d .to) (d .flag) []) x refl j s v q dec,
-        gives j s s t rs ends rests queue ends′ rests′ queue′ last′ reach k st i (a .candidate .names) (a .clear) tk,
-        λ is. recorded j s reach i rs (set rs v b) is (ap (set rs v) pr),
-      ))
+      → (rs′ : List Assignment) (ends′ rests′ queue′ last′ : List ℕ)
+      → Settled d v rs maps uses sets starts froms tos ends rests queue last rs′ ends′ rests′ queue′ last′
+      → Out rs′ ends′ rests′ queue′ last′
+  unfolding evictAll foldl
+  carried-takes x rs′ ends′ rests′ queue′ last′ se =
+      record {
+        reached =
+            λ j s t q reach e k st is queued dec.
+            let g = good-reached j s reach in
+            let i = queued-idle j s g v q queued in
+            let a = takes-good j s g v i q (d .to) (d .flag) [] (sym dec ∙ ap (λ (z : Fate). decisionBy z d) x) in
+            let o = se .reached j s t reach k st is (i .known) (idle-unassigned j s v i) (a .candidate .names) (a .clear) in
+            let step = by-fate d Takes (takes (d .to) (d .flag) []) x refl j s v q dec ∙ took j s v (d .to) (d .flag) [] in
+            (subst (λ (z : State). Stands j z t ends′ rests′ queue′ last′) (sym step) (o .0), o .1 ∙ ap records (sym step));
+      }
 
   -- a register is taken from its holders
   pub carried-evicts :
       d .fate ≡ Evicts
       → (rs₁ : List Assignment) (ends₁ rests₁ queue₁ : List ℕ)
       → EvictedAll (d .evicted) rs maps uses sizes hints starts tos ends rests queue rs₁ ends₁ rests₁ queue₁
-      → (ends′ rests′ queue′ last′ : List ℕ)
-      → Taken v (d .to .reg) maps uses sets starts froms tos ends₁ rests₁ queue₁ last ends′ rests′ queue′ last′
-      → (a : Assignment)
-      → a ≡ givenRecord (d .flag) (getD rs₁ v noRecord) (d .to)
-      → Out (set rs₁ v a) ends′ rests′ queue′ last′
-  carried-evicts x rs₁ ends₁ rests₁ queue₁ ea ends′ rests′ queue′ last′ tk b pr =
+      → (rs′ : List Assignment) (ends′ rests′ queue′ last′ : List ℕ)
+      → Settled d v rs₁ maps uses sets starts froms tos ends₁ rests₁ queue₁ last rs′ ends′ rests′ queue′ last′
+      → Out rs′ ends′ rests′ queue′ last′
+  carried-evicts x rs₁ ends₁ rests₁ queue₁ ea rs′ ends′ rests′ queue′ last′ se =
       record {
         reached =
             λ j s t q reach e k st is queued dec.
@@ -210,12 +214,9 @@ module _ (d : Decided) (v : ℕ) (rs : List Assignment) (maps uses sets sizes hi
             let vs = members (d .evicted) in
             let a = takes-good j s g v i q (d .to) (d .flag) vs (sym dec ∙ ap (λ (z : Fate). decisionBy z d) x) in
             let y = evictAll j vs s in
-            let there = reached-evict-all j vs s reach in
             let m = ea .reached j s t reach e (st .moves) is in
             let lasts : last ≡ lastWords y ++ t .last = st .last-is ∙ ap (λ (l : List ℕ). l ++ t .last) (sym (evictAll-keeps lastWords j (λ v r s. same-last j v r s) vs s)) in
-            let step = by-fate d Evicts (takes (d .to) (d .flag) vs) x refl j s v q dec ∙ took j s v (d .to) (d .flag) vs in (
-              subst (λ (z : State). Stands j z t ends′ rests′ queue′ last′) (sym step)
-                  (gives j s y t rs₁ ends₁ rests₁ queue₁ ends′ rests′ queue′ last′ there k (record { moves = m .0; last-is = lasts }) (a .idle) (a .candidate .names) (a .clear) tk),
-              recorded j y there (a .idle) rs₁ (set rs₁ v b) (m .1) (ap (set rs₁ v) pr) ∙ ap records (sym step),
-            );
+            let o = se .reached j y t (reached-evict-all j vs s reach) k (record { moves = m .0; last-is = lasts }) (m .1) (a .idle .known) (idle-unassigned j y v (a .idle)) (a .candidate .names) (a .clear) in
+            let step = by-fate d Evicts (takes (d .to) (d .flag) vs) x refl j s v q dec ∙ took j s v (d .to) (d .flag) vs in
+            (subst (λ (z : State). Stands j z t ends′ rests′ queue′ last′) (sym step) (o .0), o .1 ∙ ap records (sym step));
       }

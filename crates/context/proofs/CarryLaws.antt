@@ -13,7 +13,7 @@ use lib.ListN.{length, getD, set, take, drop, length-map, length-set, List·getD
 use lib.Seq.{take-at, drop-at, ext-getD, set-append-left, getD-set-same, getD-set-other}
 use Rattle.reg_matrix.specs.Lists.{count, filter, foldl, keep, padded, isSome}
 use Rattle.reg_matrix.specs.Layout.{endWords, restWords, useWords}
-use Rattle.reg_matrix.proofs.Tests.{both}
+use Rattle.reg_matrix.proofs.Tests.{both, not-some}
 use Rattle.lent.proofs.Laws.{any-default}
 use Rattle.reg_matrix.proofs.Places.{padded-length, padded-read, from-zero, count-length, count-append, filter-append}
 use Rattle.matrix.specs.Moves.{words}
@@ -21,6 +21,7 @@ use Rattle.matrix.specs.Placing.{Assigned, Evicted}
 use Rattle.matrix.specs.declared.Moved.{Moved}
 use Rattle.job.specs.Model.{Job, VirtReg, noVirtReg, virtReg, unitMap, segmentsOf, zeroWeight}
 use Rattle.job.specs.Layout.{jobBuffers, startsFrom}
+use Rattle.job.proofs.Lists.{starts-length}
 use Rattle.job.proofs.Premises.{IsNumber}
 use Rattle.allocator.specs.declared.CandidateReg.{CandidateReg}
 use Rattle.allocator.specs.declared.Assignment.{Assignment}
@@ -38,11 +39,11 @@ use Rattle.allocator.proofs.Rebuilt.{named-known}
 use Rattle.allocator.proofs.Agrees.{Sizes, Candidate}
 use Rattle.allocator.proofs.Good.{Good, Idle, good-reached, holder-good, reached-evict}
 use Rattle.allocator.proofs.Records.{assigned-held, not-assigned, holder-stays, lose-records, give-last}
-use Rattle.stage.specs.QueueWalk.{keyOf, setWord}
+use Rattle.queue.specs.QueueWalk.{keyOf, setWord}
 use Rattle.stage.proofs.QueueLaws.{tournament-length, set-tournament, key-is, size-at, has-hints}
 use Rattle.stage.proofs.ReachedMoves.{table-stands, uses-lie, assign-gives, evict-loses, evict-held, evict-nothing, evictMarked, marked-yes, marked-no, marked-end}
 use Rattle.context.specs.Standing.{Begins, TableStands, Moves, Stands}
-use Rattle.context.specs.Deciding.{shareOf, members, flagIn, isHeld, regIn}
+use Rattle.decisions.specs.Deciding.{shareOf, members, flagIn, isHeld, regIn}
 use Rattle.stage.specs.EvictWalk.{recordWeight}
 use Rattle.context.specs.Carrying.{EvictReads, TakeReads, TakenBack, EvictedAll, Taken}
 use Rattle.allocator.specs.Dequeue.{evictAll}
@@ -60,11 +61,6 @@ module _ {A : Type 0} where
 pub uses-are : (j : Job) (uses : List ℕ) → (b : Begins (jobBuffers j .fixedUses) uses) → uses ≡ useWords (j .fixed) ++ b .0
 unfolding jobBuffers
 uses-are j uses b = b .1
-
-starts-size : (n : ℕ) (xs : List VirtReg) → length (startsFrom (λ (x : VirtReg). length (x .hints)) n xs) ≡ length xs + 1
-unfolding startsFrom
-starts-size n [] = refl
-starts-size n (x ∷ xs) = omega (arith, starts-size (n + length (x .hints)) xs)
 
 module _ (j : Job) (s : State) (g : Good j s) where
   few : length (j .virtRegs) ≤ 512
@@ -108,7 +104,7 @@ module _ (j : Job) (s : State) (g : Good j s) where
         → setWord v (keyOf v (ltb (getD hints v 0) (getD hints (v + 1) 0)) (getD sizes v 0) q + 1) queue ≡ queueWords j t ++ qt
     unfolding jobBuffers
     queued-at q e hints sizes bh bs =
-        let a = begins-take 513 _ hints (padded-length 513 0 (startsFrom (λ (x : VirtReg). length (x .hints)) 0 (j .virtRegs)) (omega (arith, starts-size 0 (j .virtRegs), few))) bh in
+        let a = begins-take 513 _ hints (padded-length 513 0 (startsFrom (λ (x : VirtReg). length (x .hints)) 0 (j .virtRegs)) (omega (arith, starts-length (λ (x : VirtReg). length (x .hints)) 0 (j .virtRegs), few))) bh in
         let b = begins-take 512 _ sizes (padded-length 512 0 (map (λ (x : VirtReg). x .size) (j .virtRegs)) (simp length-map few)) bs in
         ap (λ (k : ℕ). setWord v (k + 1) queue)
         (ap (λ (z : ℕ). keyOf v (ltb (getD hints v 0) (getD hints (v + 1) 0)) z q) (size-at j few hints sizes a b v known)
@@ -215,10 +211,6 @@ taken v reg maps uses sets starts froms tos ends rests queue last ends′ rests�
                 ∙ last-set j s g v known c f (t .last) last (st .last-is);
           };
     }
-  where
-    not-some : (o : Option CandidateReg) → T (not (isSome o)) → o ≡ none
-    not-some none t = refl
-    not-some (some c) t = absurd t
 
 -- ---- a set of numbers, one after another
 

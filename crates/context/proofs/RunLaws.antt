@@ -23,12 +23,15 @@ use Rattle.allocator.specs.Reached.{Reached}
 use Rattle.allocator.proofs.Agrees.{queuedAt}
 use Rattle.allocator.proofs.Runs.{next-queued}
 use Rattle.allocator.proofs.Good.{good-reached, reached-dequeue}
-use Rattle.stage.specs.QueueWalk.{decoded, nextNumber}
-use Rattle.stage.specs.declared.queue.Next.{Next}
-use Rattle.stage.specs.declared.queue.Next.the-variants.{Nobody, Number}
+use Rattle.queue.specs.QueueWalk.{decoded, nextNumber}
+use Rattle.queue.specs.declared.Next.{Next}
+use Rattle.queue.specs.declared.Next.the-variants.{Nobody, Number}
 use Rattle.stage.proofs.QueueLaws.{tournament-length, greatest-next}
 use Rattle.context.specs.Standing.{JobReads, JobStands, Stands}
-use Rattle.context.specs.Deciding.{Fate, Leaves, Takes, Evicts, Splits, Fails, Decided, decisionBy, decisionOf, classIn, decidedIn, reading}
+use Rattle.decisions.specs.declared.Fate.{Fate}
+use Rattle.decisions.specs.declared.Fate.the-variants.{Leaves, Takes, Evicts, Splits, Fails}
+use Rattle.decisions.specs.declared.Decided.{Decided}
+use Rattle.decisions.specs.Deciding.{decisionBy, decisionOf, classIn, decidedIn, reading}
 use Rattle.context.specs.Carrying.{EvictReads, TakeReads, CarriedOut}
 use Rattle.context.specs.Running.{lentJob, lentState, isFails, endingNumber, RunDone}
 use Rattle.context.proofs.Decision.{decision-is}

@@ -18,7 +18,8 @@ use Rattle.allocator.specs.Layout.{StateBuffers}
 use Rattle.allocator.specs.Calls.{named}
 use Rattle.allocator.specs.Reached.{Reached}
 use Rattle.context.specs.Standing.{Begins, Moves, Stands}
-use Rattle.context.specs.Deciding.{Decided, members, decisionOf}
+use Rattle.decisions.specs.declared.Decided.{Decided}
+use Rattle.decisions.specs.Deciding.{members, decisionOf}
 
 -- the job's slices that an eviction reads
 pub record EvictReads (j : Job) (maps uses sizes hints starts tos : List ℕ) : Type 0 where
@@ -74,6 +75,20 @@ pub record Taken (v reg : ℕ) (maps uses sets starts froms tos ends rests queue
       → (c : CandidateReg) (f : Bool)
       → c .reg ≡ reg
       → Stands j (give j v c f s) t ends′ rests′ queue′ last′
+
+-- v, which holds nothing, takes the register that was decided, and its record says so
+pub record Settled (d : Decided) (v : ℕ) (rs : List Assignment) (maps uses sets starts froms tos ends rests queue last : List ℕ) (rs′ : List Assignment) (ends′ rests′ queue′ last′ : List ℕ) : Type 0 where
+  pub reached :
+      (j : Job) (s : State) (t : StateBuffers)
+      → Reached j s
+      → TakeReads j maps uses sets starts froms tos
+      → Stands j s t ends rests queue last
+      → rs ≡ records s
+      → v < length (j .virtRegs)
+      → T (isUnassigned s v)
+      → T (named j v (d .to .reg))
+      → checkOf j s v (d .to .reg) ≡ []
+      → Stands j (give j v (d .to) (d .flag) s) t ends′ rests′ queue′ last′ × (rs′ ≡ records (give j v (d .to) (d .flag) s))
 
 -- what the dequeue of v decides is carried out
 pub record CarriedOut (d : Decided) (v : ℕ) (rs : List Assignment) (maps uses sets sizes hints starts froms tos ends rests queue last : List ℕ) (rs′ : List Assignment) (ends′ rests′ queue′ last′ : List ℕ) : Type 0 where

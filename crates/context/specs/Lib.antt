@@ -1,4 +1,3 @@
-pub mod Deciding
 pub mod Standing
 pub mod Carrying
 pub mod Running

@@ -15,7 +15,8 @@ use Rattle.allocator.specs.Layout.{StateBuffers}
 use Rattle.allocator.specs.Run.{run}
 use Rattle.allocator.specs.Reached.{Reached}
 use Rattle.context.specs.Standing.{JobStands, Stands}
-use Rattle.context.specs.Deciding.{Fate, Leaves, Takes, Evicts, Splits, Fails}
+use Rattle.decisions.specs.declared.Fate.{Fate}
+use Rattle.decisions.specs.declared.Fate.the-variants.{Leaves, Takes, Evicts, Splits, Fails}
 
 -- the job's fifteen slices
 abbrev pub lentJob : List ℕ → List ℕ → List ℕ → List ℕ → List ℕ → List ℕ → List Float → List ℕ → List ℕ → List ℕ → List Float → List ℕ → List ℕ → List ℕ → List ℕ → JobBuffers

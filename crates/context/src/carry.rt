@@ -3,23 +3,23 @@ ghost use mathlib.Core.Path.{_≡_};
 ghost use lib.Dec.{ltb};
 ghost use lib.ListN.{getD};
 ghost use Prim.Native.Nat.{_+_, _<_};
-ghost use Rattle.context.specs.Deciding.{isHeld, regIn, givenRecord};
-ghost use Rattle.context.specs.Carrying.{TakenBack, EvictedAll, Taken, CarriedOut};
-use crate::Decided;
-use crate::Fate;
-use crate::decide::flag_of;
-use crate::parts::of32;
+ghost use Rattle.decisions.specs.Deciding.{isHeld, regIn, givenRecord};
+ghost use Rattle.context.specs.Carrying.{TakenBack, EvictedAll, Taken, Settled, CarriedOut};
 use allocator::Assignment;
 use allocator::CandidateReg;
 use allocator::Stage;
+use decisions::Decided;
+use decisions::Fate;
+use decisions::flag_of;
+use decisions::parts::of32;
 use lent::at;
 use lent::at16;
 use lent::at32;
 use lent::put8;
 use matrix::assign::assign;
 use matrix::assign::evict;
-use stage::queue::enqueue;
-use stage::queue::remove;
+use queue::enqueue;
+use queue::remove;
 
 // Whether a number has hints: they begin before the next one's do.
 fn has_hints(starts: &[u16], v: u16) -> bool
@@ -185,6 +185,49 @@ fn given(flag: bool, before: Assignment, to: CandidateReg) -> Assignment
     }
 }
 
+// The number takes the register that was decided, and its record says so.
+fn settle(
+    records: [Assignment; 512],
+    d: Decided,
+    v: u16,
+    maps: &[u64],
+    uses: &[u64],
+    sets: &[u16],
+    segment_starts: &[u16],
+    froms: &[u32],
+    tos: &[u32],
+    ends: &mut [u64],
+    rests: &mut [u64],
+    queue: &mut [u64],
+    last: &mut [u8],
+) -> [Assignment; 512]
+    ensures { λ r. ⌜ Settled d v records (now (maps .entry)) (now (uses .entry)) (now (sets .entry)) (now («segment_starts» .entry)) (now (froms .entry)) (now (tos .entry)) (now (ends .entry)) (now (rests .entry)) (now (queue .entry)) (now (last .entry)) r (now (ends .exit)) (now (rests .exit)) (now (queue .exit)) (now (last .exit)) ⌝ }
+{
+    let i = v as usize;
+    if 512 <= i {
+        return records;
+    }
+    let to = d.to;
+    let mut all = records;
+    let a = all[i];
+    all[i] = given(d.flag, a, to);
+    take(
+        v,
+        to.reg,
+        maps,
+        uses,
+        sets,
+        segment_starts,
+        froms,
+        tos,
+        ends,
+        rests,
+        queue,
+        last,
+    );
+    all
+}
+
 // What the dequeue of v decided is carried out: the records afterwards.
 pub fn carry_out(
     records: [Assignment; 512],
@@ -212,7 +255,7 @@ pub fn carry_out(
     let fate = d.fate;
     match fate {
         Fate::Leaves => {
-            remove(queue, v);
+            remove(queue, v); // left over
             let mut all = records;
             all[i] = Assignment::Dead;
             all
@@ -228,34 +271,27 @@ pub fn carry_out(
             records
         }
         Fate::Fails => {
-            remove(queue, v);
+            remove(queue, v); // too many
             records
         }
-        Fate::Takes => {
-            let to = d.to;
-            let mut all = records;
-            let a = all[i];
-            all[i] = given(d.flag, a, to);
-            take(
-                v,
-                to.reg,
-                maps,
-                uses,
-                sets,
-                segment_starts,
-                froms,
-                tos,
-                ends,
-                rests,
-                queue,
-                last,
-            );
-            all
-        }
+        Fate::Takes => settle(
+            records,
+            d,
+            v,
+            maps,
+            uses,
+            sets,
+            segment_starts,
+            froms,
+            tos,
+            ends,
+            rests,
+            queue,
+            last,
+        ),
         Fate::Evicts => {
-            let to = d.to;
             let gone = d.evicted;
-            let mut all = evict_all(
+            let all = evict_all(
                 records,
                 gone,
                 maps,
@@ -268,11 +304,10 @@ pub fn carry_out(
                 rests,
                 queue,
             );
-            let a = all[i];
-            all[i] = given(d.flag, a, to);
-            take(
+            settle(
+                all,
+                d,
                 v,
-                to.reg,
                 maps,
                 uses,
                 sets,
@@ -283,8 +318,7 @@ pub fn carry_out(
                 rests,
                 queue,
                 last,
-            );
-            all
+            )
         }
     }
 }

@@ -1,13 +1,13 @@
 // A run with a budget (`Allocator::run`): dequeues, the greatest key first, until nobody waits, the budget is spent, or too many are live.
 ghost use mathlib.Core.Path.{_≡_};
 ghost use Rattle.context.specs.Running.{RunDone, lentJob, lentState, isFails};
-use crate::Decided;
-use crate::Fate;
 use crate::carry::carry_out;
-use crate::decide::decide;
 use allocator::Assignment;
-use stage::queue::Next;
-use stage::queue::greatest;
+use decisions::Decided;
+use decisions::Fate;
+use decisions::decide;
+use queue::Next;
+use queue::greatest;
 
 // Whether a decision ends the run.
 fn is_over(d: Decided) -> bool

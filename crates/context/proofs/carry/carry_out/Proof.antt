@@ -1,5 +1,5 @@
 use borrow.Author.Needs.{needs}
-use mathlib.Core.Path.{refl, ap, _∙_}
+use mathlib.Core.Path.{refl}
 use Rattle.context.proofs.Carried.{carried-nobody, carried-leaves, carried-splits, carried-fails, carried-takes, carried-evicts}
 use Rattle.context.proofs.carry.carry_out.Statement.{statement}
 use Rattle.context.proofs.carry.carry_out.Tie as tie
@@ -40,23 +40,8 @@ remove-requires-2 c κs = search needs
 enum-told-4 : tie.Need-enum-told-4
 enum-told-4 c = search needs
 
-mul-a : tie.Need-mul-a
-mul-a c = search needs
-
-array-copy-out-a : tie.Need-array-copy-out-a
-array-copy-out-a c = search needs
-
-given-requires : tie.Need-given-requires
-given-requires c κs = search needs
-
-mul-all-2 : tie.Need-mul-all-2
-mul-all-2 c = search needs
-
-array-set-from-all-2 : tie.Need-array-set-from-all-2
-array-set-from-all-2 c = search needs
-
-take-requires : tie.Need-take-requires
-take-requires c κs = search needs
+settle-requires : tie.Need-settle-requires
+settle-requires c κs = search needs
 
 enum-told-5 : tie.Need-enum-told-5
 enum-told-5 c = search needs
@@ -64,23 +49,8 @@ enum-told-5 c = search needs
 evict-all-requires : tie.Need-evict-all-requires
 evict-all-requires c κs = search needs
 
-mul-a-2 : tie.Need-mul-a-2
-mul-a-2 c = search needs
-
-array-copy-out-a-2 : tie.Need-array-copy-out-a-2
-array-copy-out-a-2 c = search needs
-
-given-requires-2 : tie.Need-given-requires-2
-given-requires-2 c κs = search needs
-
-mul-all-3 : tie.Need-mul-all-3
-mul-all-3 c = search needs
-
-array-set-from-all-3 : tie.Need-array-set-from-all-3
-array-set-from-all-3 c = search needs
-
-take-requires-2 : tie.Need-take-requires-2
-take-requires-2 c κs = search needs
+settle-requires-2 : tie.Need-settle-requires-2
+settle-requires-2 c κs = search needs
 
 same-length : tie.Need-same-length
 same-length c = search needs
@@ -113,7 +83,7 @@ same-length-7 : tie.Need-same-length-7
 same-length-7 c = search needs
 
 returns-5 : tie.Need-returns-5
-returns-5 c = carried-takes _ _ _ _ _ _ _ _ _ _ _ _ _ _ _ (c .before .before .before .before .before .before .before .before .before .before .before .before .before .before .before .before .enum-told4 .given .1) _ _ _ _ (c .before .before .before .before .before .before .before .before .take .ensures) _ (c .before .before .before .before .before .before .before .before .before .before .before .before .before .given .ensures)
+returns-5 c = carried-takes _ _ _ _ _ _ _ _ _ _ _ _ _ _ _ (c .before .before .before .before .before .before .before .before .before .before .before .before .before .enum-told4 .given .1) _ _ _ _ _ (c .before .before .before .before .before .before .before .before .settle .ensures)
 
 same-length-8 : tie.Need-same-length-8
 same-length-8 c = search needs
@@ -128,7 +98,7 @@ same-length-11 : tie.Need-same-length-11
 same-length-11 c = search needs
 
 returns-6 : tie.Need-returns-6
-returns-6 c = carried-evicts _ _ _ _ _ _ _ _ _ _ _ _ _ _ _ (c .before .before .before .before .before .before .before .before .before .before .before .before .before .before .before .before .before .before .before .before .before .before .before .before .before .before .before .enum-told5 .given .1) _ _ _ _ (c .before .before .before .before .before .before .before .before .before .before .before .before .before .before .before .before .before .before .before .before .before .evict-all .ensures) _ _ _ _ (c .before .before .before .before .before .before .before .before .take2 .ensures) _ (c .before .before .before .before .before .before .before .before .before .before .before .before .before .given2 .ensures)
+returns-6 c = carried-evicts _ _ _ _ _ _ _ _ _ _ _ _ _ _ _ (c .before .before .before .before .before .before .before .before .before .before .before .before .before .before .before .before .before .before .before .before .before .before .before .before .enum-told5 .given .1) _ _ _ _ (c .before .before .before .before .before .before .before .before .before .before .before .before .before .before .before .before .before .before .before .evict-all .ensures) _ _ _ _ _ (c .before .before .before .before .before .before .before .before .settle2 .ensures)
 
 pub carry-out-spec : {M : Type 1} → statement M
 carry-out-spec =
@@ -146,20 +116,10 @@ carry-out-spec =
     enum-told-3
     remove-requires-2
     enum-told-4
-    mul-a
-    array-copy-out-a
-    given-requires
-    mul-all-2
-    array-set-from-all-2
-    take-requires
+    settle-requires
     enum-told-5
     evict-all-requires
-    mul-a-2
-    array-copy-out-a-2
-    given-requires-2
-    mul-all-3
-    array-set-from-all-3
-    take-requires-2
+    settle-requires-2
     same-length
     returns-2
     same-length-2

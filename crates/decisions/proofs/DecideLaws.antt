@@ -1,0 +1,172 @@
+-- A dequeue's decision in the code, end by end: what each function returns there is what the definition says. Assumes nothing.
+use Prim.Native.Nat.{ℕ, _-_, _≤_}
+use native.Mathlib.Omega.{arith}
+use mathlib.Core.Path.{_≡_, refl, sym, ap, _∙_, subst}
+use mathlib.Core.List.{List, []}
+use mathlib.Core.Option.{Option}
+use mathlib.Core.Bool.{Bool, true, false, not, _&&_, cond}
+use lib.Dec.{eqb}
+use lib.Ieee.{Float, lt, eq}
+use lib.ListN.{length, getD, replicate, length-take, List·getD-eq-default}
+use borrow.Author.Tests.{eq-eqb, ne-eqb}
+use Rattle.matrix.specs.Walk.{Lent, lent}
+use Rattle.job.specs.Model.{VirtReg, zeroWeight}
+use Rattle.job.specs.Layout.{JobBuffers}
+use Rattle.allocator.specs.declared.CandidateReg.{CandidateReg}
+use Rattle.allocator.specs.declared.Assignment.{Assignment}
+use Rattle.allocator.specs.declared.Stage.{Stage}
+use Rattle.allocator.specs.declared.Stage.the-variants.{Evict, Split}
+use Rattle.allocator.specs.Order.{highestPreference}
+use Rattle.allocator.specs.Evict.{infinite}
+use Rattle.allocator.proofs.Capacity.{hinted-length}
+use Rattle.order.specs.declared.Last.{Last}
+use Rattle.order.specs.OrderWalk.{hintsOf, hintedOf, zipHints, lastOf, offersFrom}
+use Rattle.order.specs.declared.Last.the-variants.{Reg as LastReg, NoReg}
+use Rattle.stage.specs.AllocateWalk.{availableIn, evictIn, preferIn, noBest}
+use Rattle.stage.specs.EvictWalk.{noRecord}
+use Rattle.stage.specs.declared.allocate.Best.{Best}
+use Rattle.stage.specs.declared.allocate.Available.{Available}
+use Rattle.stage.specs.declared.allocate.Available.the-variants.{Clear, NoneClear, NoCandidates}
+use Rattle.order.proofs.OrderLaws.{hinted-is}
+use Rattle.decisions.specs.Deciding.{shareOf, Decided, Leaves, Takes, Evicts, Splits, Fails, decided, without, flagIn, lastIn, preferredOr, clearIn, evictedOr, noneClearIn, foundIn, inOrder, lentTo, classIn, hintedIn, decidedIn}
+
+-- ---- the register last given to a set, by its word
+
+module _ (last sets : List ℕ) (v t word : ℕ) (a : t ≡ getD sets v 0) (b : word ≡ getD last t 0) where
+  read-word : word ≡ getD last (getD sets v 0) 0
+  read-word = b ∙ ap (λ (n : ℕ). getD last n 0) a
+
+  pub last-none : word ≡ 0 → NoReg ≡ lastIn last sets v
+  unfolding lastIn
+  last-none e = subst (λ (w : ℕ). NoReg ≡ cond (eqb w 0) NoReg (LastReg (w - 1))) read-word (rw (eq-eqb word 0 e))
+
+  pub last-some : (word ≡ 0 → ⊥) → LastReg (word - 1) ≡ lastIn last sets v
+  unfolding lastIn
+  last-some e = subst (λ (w : ℕ). LastReg (word - 1) ≡ cond (eqb w 0) NoReg (LastReg (w - 1))) read-word (rw (ne-eqb word 0 e))
+
+-- a place past the records
+pub flag-past : (rs : List Assignment) (v : ℕ) → length rs ≡ 512 → 512 ≤ v → false ≡ flagIn (getD rs v noRecord)
+flag-past rs v l h = let m : length rs ≤ v = omega (arith, l, h) in rw (List·getD-eq-default rs noRecord {n = v} m)
+
+-- ---- a clear candidate
+
+module _ (W : Lent) (maps : List ℕ) (rs : List Assignment) (ss : List Float) (hs : List CandidateReg) (flag : Bool) (c : CandidateReg) where
+  -- the flag is on
+  pub clear-flagged : flag ≡ true → decided Takes c false (replicate 512 false) ≡ clearIn W maps rs ss hs flag c
+  unfolding clearIn
+  clear-flagged e = rw e (go (lt (c .«preference_weight») (highestPreference hs)))
+    where
+      go : (t : Bool) → decided Takes c false (replicate 512 false) ≡ cond (t && false) (preferredOr c (preferIn W maps rs ss c hs)) (decided Takes c false (replicate 512 false))
+      go true = refl
+      go false = refl
+
+  module _ (h : Float) (p : h ≡ highestPreference hs) where
+    -- no hinted candidate is heavier
+    pub clear-heaviest : lt (c .«preference_weight») h ≡ false → decided Takes c false (replicate 512 false) ≡ clearIn W maps rs ss hs flag c
+    unfolding clearIn
+    clear-heaviest l =
+        let m : lt (c .«preference_weight») (highestPreference hs) ≡ false = rw (← p) l in
+        rw m
+
+    -- the search for a preferred one decides
+    pub clear-searched : flag ≡ false → lt (c .«preference_weight») h ≡ true → (b : Best) → b ≡ preferIn W maps rs ss c hs → preferredOr c b ≡ clearIn W maps rs ss hs flag c
+    unfolding clearIn
+    clear-searched e l b q =
+        let m : lt (c .«preference_weight») (highestPreference hs) ≡ true = rw (← p) l in
+        rw (m, e) (ap (preferredOr c) q)
+
+pub evicts-found : (c : CandidateReg) (b : Best) → b .found ≡ true → decided Evicts (b .to) true (b .holders) ≡ preferredOr c b
+evicts-found c b e = rw e
+
+pub evicts-none : (c : CandidateReg) (b : Best) → b .found ≡ false → decided Takes c false (replicate 512 false) ≡ preferredOr c b
+evicts-none c b e = rw e
+
+-- ---- no candidate is clear
+
+module _ (W : Lent) (maps : List ℕ) (rs : List Assignment) (ss : List Float) (flag : Bool) (own : Float) (cs : List CandidateReg) (q : Stage) where
+  pub none-at-split : q ≡ Split → without Leaves ≡ noneClearIn W maps rs ss flag own cs q
+  unfolding noneClearIn
+  none-at-split e = rw e
+
+  pub none-at-evict : q ≡ Evict → (b : Best) → b ≡ evictIn W maps rs ss flag own noBest cs → evictedOr own b ≡ noneClearIn W maps rs ss flag own cs q
+  unfolding noneClearIn
+  none-at-evict e b p = rw e (ap (evictedOr own) p)
+
+module _ (own : Float) (b : Best) where
+  pub evicted-found : b .found ≡ true → decided Evicts (b .to) (not (lt (b .cost .«spill_weight») own)) (b .holders) ≡ evictedOr own b
+  evicted-found e = rw e
+
+  module _ (i : Bool) (p : i ≡ eq own infinite) (e : b .found ≡ false) where
+    pub evicted-fails : i ≡ true → without Fails ≡ evictedOr own b
+    evicted-fails t = let u : eq own infinite ≡ true = rw (← p) t in rw (e, u)
+
+    pub evicted-splits : i ≡ false → without Splits ≡ evictedOr own b
+    evicted-splits t = let u : eq own infinite ≡ false = rw (← p) t in rw (e, u)
+
+-- ---- by what was found of the candidates
+
+module _ (W : Lent) (maps : List ℕ) (rs : List Assignment) (ss : List Float) (hs : List CandidateReg) (flag : Bool) (own : Float) (cs : List CandidateReg) (q : Stage) (a : Available) where
+  pub found-no-candidates : a ≡ NoCandidates → without Leaves ≡ foundIn W maps rs ss hs flag own cs q a
+  unfolding foundIn
+  found-no-candidates e = rw e
+
+  pub found-clear : (c : CandidateReg) → a ≡ Clear c → clearIn W maps rs ss hs flag c ≡ foundIn W maps rs ss hs flag own cs q a
+  unfolding foundIn
+  found-clear c e = rw e
+
+  pub found-none-clear : a ≡ NoneClear → noneClearIn W maps rs ss flag own cs q ≡ foundIn W maps rs ss hs flag own cs q a
+  unfolding foundIn
+  found-none-clear e = rw e
+
+pub order-found :
+    (W : Lent) (maps : List ℕ) (rs : List Assignment) (ss : List Float) (hs : List CandidateReg) (class : List ℕ) (flag : Bool) (own : Float) (q : Stage)
+    → (a : Available) → a ≡ availableIn W maps false (offersFrom hs class 0) → foundIn W maps rs ss hs flag own (offersFrom hs class 0) q a ≡ inOrder W maps rs ss hs class flag own q
+unfolding inOrder
+order-found W maps rs ss hs class flag own q a p = ap (foundIn W maps rs ss hs flag own (offersFrom hs class 0) q) p
+
+-- ---- over the job's buffers
+
+pub hinted-few : (hr : List ℕ) (hw : List Float) (last : Option ℕ) → length (hintedOf (hintsOf hr hw) last) ≤ 65
+unfolding hintsOf
+hinted-few hr hw last =
+    let x : VirtReg = record { class = 0; valueSet = 0; spillWeight = zeroWeight; size = 0; hints = hintsOf hr hw; segments = [] } in
+    rw (hinted-is x last) (omega (arith, hinted-length x last, length-take 64 (zipHints hr hw)))
+
+-- the class of a kind that was read
+module _ (B : JobBuffers) (v kind : ℕ) (class : List ℕ) (k : kind ≡ getD (B .classes) v 0) (c : class ≡ shareOf (B .classStarts) kind (B .classRegs)) where
+  class-read : class ≡ classIn B v
+  unfolding classIn
+  class-read = c ∙ ap (λ (n : ℕ). shareOf (B .classStarts) n (B .classRegs)) k
+
+  pub class-fits : length (classIn B v) ≤ 64 → length class ≤ 64
+  class-fits h = subst (λ (l : List ℕ). length l ≤ 64) (sym class-read) h
+
+module _ (B : JobBuffers) (ends rests last : List ℕ) (rs : List Assignment) (v : ℕ) (q : Stage) where
+  pub decided-by :
+      (W : Lent) (hs : List CandidateReg) (class : List ℕ) (flag : Bool) (own : Float)
+      → W ≡ lentTo B ends rests v
+      → hs ≡ hintedIn B last v
+      → class ≡ classIn B v
+      → flag ≡ flagIn (getD rs v noRecord)
+      → own ≡ getD (B .spillWeights) v zeroWeight
+      → inOrder W (B .regs) rs (B .spillWeights) hs class flag own q ≡ decidedIn B ends rests last rs v q
+  unfolding decidedIn
+  decided-by W hs class flag own w h c f o = rw (w, h, c, f, o)
+
+  pub decided-is :
+      (kind : ℕ) (class fs ts vs hr : List ℕ) (hw : List Float) (la : Last) (flag : Bool) (own : Float) (d : Decided)
+      → d ≡ inOrder (lent ends rests (B .fixedUses) fs ts vs) (B .regs) rs (B .spillWeights) (hintedOf (hintsOf hr hw) (lastOf la)) class flag own q
+      → kind ≡ getD (B .classes) v 0
+      → class ≡ shareOf (B .classStarts) kind (B .classRegs)
+      → fs ≡ shareOf (B .segmentStarts) v (B .froms)
+      → ts ≡ shareOf (B .segmentStarts) v (B .tos)
+      → vs ≡ shareOf (B .segmentStarts) v (B .values)
+      → hr ≡ shareOf (B .hintStarts) v (B .hintRegs)
+      → hw ≡ shareOf (B .hintStarts) v (B .hintWeights)
+      → la ≡ lastIn last (B .valueSets) v
+      → flag ≡ flagIn (getD rs v noRecord)
+      → own ≡ getD (B .spillWeights) v zeroWeight
+      → d ≡ decidedIn B ends rests last rs v q
+  unfolding hintedIn
+  decided-is kind class fs ts vs hr hw la flag own d e k c a b x y z l f o =
+      e ∙ decided-by _ _ class flag own (rw (a, b, x)) (rw (y, z, l)) (class-read B v kind class k c) f o

@@ -1,0 +1,149 @@
+-- A dequeue's decision in the shape of the code, over what is lent. Laws in proofs/ and in context/proofs tie it to Dequeue.antt. Assumes nothing.
+use Prim.Native.Nat.{ℕ, _+_, _-_}
+use mathlib.Core.List.{List, []}
+use mathlib.Core.Bool.{Bool, true, false, not, _&&_, _||_, cond}
+use lib.Dec.{eqb}
+use lib.Ieee.{Float, lt, eq}
+use lib.ListN.{getD, replicate}
+use Rattle.lent.specs.Parts.{part}
+use Rattle.reg_matrix.specs.Lists.{filter, count}
+use Rattle.matrix.specs.Walk.{Lent, lent}
+use Rattle.job.specs.Model.{zeroWeight}
+use Rattle.job.specs.Layout.{JobBuffers}
+use Rattle.allocator.specs.declared.CandidateReg.{CandidateReg}
+use Rattle.allocator.specs.declared.Assignment.{Assignment}
+use Rattle.allocator.specs.declared.Assignment.the-variants.{Assigned, Unassigned, Dead}
+use Rattle.allocator.specs.declared.Stage.{Stage}
+use Rattle.allocator.specs.declared.Stage.the-variants.{Evict, Split}
+use Rattle.allocator.specs.Order.{candidate, highestPreference}
+use Rattle.allocator.specs.Evict.{infinite}
+use Rattle.allocator.specs.Dequeue.{Decision, leaves, takes, splits, fails}
+use Rattle.order.specs.OrderWalk.{hintsOf, hintedOf, offersFrom, lastOf}
+use Rattle.order.specs.declared.Last.{Last}
+use Rattle.order.specs.declared.Last.the-variants.{Reg as LastReg, NoReg}
+use Rattle.stage.specs.AllocateWalk.{availableIn, evictIn, preferIn, noBest}
+use Rattle.stage.specs.EvictWalk.{noRecord}
+use Rattle.stage.specs.declared.allocate.Best.{Best}
+use Rattle.stage.specs.declared.allocate.Available.{Available}
+use Rattle.stage.specs.declared.allocate.Available.the-variants.{Clear, NoneClear, NoCandidates}
+pub use Rattle.decisions.specs.declared.Fate.{Fate}
+pub use Rattle.decisions.specs.declared.Fate.the-variants.{Leaves, Takes, Evicts, Splits, Fails}
+pub use Rattle.decisions.specs.declared.Decided.{Decided}
+
+-- the part of a list that is n's own, by where it begins and where it ends
+module _ {A : Type 0} where
+  unfoldable pub shareOf : List ℕ → ℕ → List A → List A
+  shareOf starts n xs = part (getD starts n 0) (getD starts (n + 1) 0) xs
+
+-- ---- the decision that the code's answer stands for
+
+-- whom a set of numbers names, ascending
+unfoldable pub members : List Bool → List ℕ
+members set = filter (λ v. getD set v false) (count 0 512)
+
+abbrev pub decisionBy : Fate → Decided → Decision
+decisionBy Leaves d = leaves
+decisionBy Takes d = takes (d .to) (d .flag) []
+decisionBy Evicts d = takes (d .to) (d .flag) (members (d .evicted))
+decisionBy Splits d = splits
+decisionBy Fails d = fails
+
+abbrev pub decisionOf : Decided → Decision
+decisionOf d = decisionBy (d .fate) d
+
+-- ---- in the shape of the code
+
+abbrev pub decided : Fate → CandidateReg → Bool → List Bool → Decided
+decided x c f vs = record { fate = x; to = c; flag = f; evicted = vs }
+
+-- no register is taken
+abbrev pub without : Fate → Decided
+without x = decided x (candidate 0 zeroWeight) false (replicate 512 false)
+
+abbrev pub flagIn : Assignment → Bool
+flagIn (Assigned f r w) = f
+flagIn (Unassigned f) = f
+flagIn Dead = false
+
+-- whether a record holds a register, and which
+abbrev pub isHeld : Assignment → Bool
+isHeld (Assigned f r w) = true
+isHeld (Unassigned f) = false
+isHeld Dead = false
+
+abbrev pub regIn : Assignment → ℕ
+regIn (Assigned f r w) = r
+regIn (Unassigned f) = 0
+regIn Dead = 0
+
+-- the record of a number that takes a register: its flag stays on, or turns on
+abbrev pub givenRecord : Bool → Assignment → CandidateReg → Assignment
+givenRecord f a c = Assigned (f || flagIn a) (c .reg) (c .«preference_weight»)
+
+-- the register last given to the set of v, by its word
+unfoldable pub lastIn : List ℕ → List ℕ → ℕ → Last
+lastIn last sets v = cond (eqb (getD last (getD sets v 0) 0) 0) NoReg (LastReg (getD last (getD sets v 0) 0 - 1))
+
+abbrev pub preferredOr : CandidateReg → Best → Decided
+preferredOr c b = cond (b .found) (decided Evicts (b .to) true (b .holders)) (decided Takes c false (replicate 512 false))
+
+-- the clear candidate c, unless another is preferred
+unfoldable pub clearIn : Lent → List ℕ → List Assignment → List Float → List CandidateReg → Bool → CandidateReg → Decided
+clearIn W maps rs ss hs flag c =
+    cond (lt (c .«preference_weight») (highestPreference hs) && not flag) (preferredOr c (preferIn W maps rs ss c hs)) (decided Takes c false (replicate 512 false))
+
+abbrev pub evictedOr : Float → Best → Decided
+evictedOr own b = cond (b .found) (decided Evicts (b .to) (not (lt (b .cost .«spill_weight») own)) (b .holders)) (cond (eq own infinite) (without Fails) (without Splits))
+
+unfoldable pub noneClearIn : Lent → List ℕ → List Assignment → List Float → Bool → Float → List CandidateReg → Stage → Decided
+noneClearIn W maps rs ss flag own cs Evict = evictedOr own (evictIn W maps rs ss flag own noBest cs)
+noneClearIn W maps rs ss flag own cs Split = without Leaves
+
+-- by what was found of the candidates
+unfoldable pub foundIn : Lent → List ℕ → List Assignment → List Float → List CandidateReg → Bool → Float → List CandidateReg → Stage → Available → Decided
+foundIn W maps rs ss hs flag own cs q NoCandidates = without Leaves
+foundIn W maps rs ss hs flag own cs q (Clear c) = clearIn W maps rs ss hs flag c
+foundIn W maps rs ss hs flag own cs q NoneClear = noneClearIn W maps rs ss flag own cs q
+
+-- the hinted candidates hs, then the class
+unfoldable pub inOrder : Lent → List ℕ → List Assignment → List Float → List CandidateReg → List ℕ → Bool → Float → Stage → Decided
+inOrder W maps rs ss hs class flag own q =
+    foundIn W maps rs ss hs flag own (offersFrom hs class 0) q (availableIn W maps false (offersFrom hs class 0))
+
+-- ---- over the job's buffers B, the table's, and the last registers
+
+abbrev pub lentTo : JobBuffers → List ℕ → List ℕ → ℕ → Lent
+lentTo B ends rests v =
+    lent ends rests (B .fixedUses) (shareOf (B .segmentStarts) v (B .froms)) (shareOf (B .segmentStarts) v (B .tos)) (shareOf (B .segmentStarts) v (B .values))
+
+unfoldable pub classIn : JobBuffers → ℕ → List ℕ
+classIn B v = shareOf (B .classStarts) (getD (B .classes) v 0) (B .classRegs)
+
+unfoldable pub hintedIn : JobBuffers → List ℕ → ℕ → List CandidateReg
+hintedIn B last v =
+    hintedOf (hintsOf (shareOf (B .hintStarts) v (B .hintRegs)) (shareOf (B .hintStarts) v (B .hintWeights))) (lastOf (lastIn last (B .valueSets) v))
+
+unfoldable pub decidedIn : JobBuffers → List ℕ → List ℕ → List ℕ → List Assignment → ℕ → Stage → Decided
+decidedIn B ends rests last rs v q =
+    inOrder (lentTo B ends rests v) (B .regs) rs (B .spillWeights) (hintedIn B last v) (classIn B v) (flagIn (getD rs v noRecord)) (getD (B .spillWeights) v zeroWeight) q
+
+-- the job's buffers that a decision reads; it asks for no size
+abbrev pub reading : List ℕ → List ℕ → List ℕ → List ℕ → List ℕ → List ℕ → List Float → List ℕ → List ℕ → List Float → List ℕ → List ℕ → List ℕ → List ℕ → JobBuffers
+reading maps cs cr us kinds sets sw hs hr hw ss fs ts vs =
+    record {
+      regs = maps;
+      classStarts = cs;
+      classRegs = cr;
+      fixedUses = us;
+      classes = kinds;
+      valueSets = sets;
+      spillWeights = sw;
+      sizes = [];
+      hintStarts = hs;
+      hintRegs = hr;
+      hintWeights = hw;
+      segmentStarts = ss;
+      froms = fs;
+      tos = ts;
+      values = vs;
+    }
