@@ -1,3 +1,2 @@
-pub mod WeightBits
 pub mod Turns
 pub mod Joined

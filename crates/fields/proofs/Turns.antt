@@ -3,6 +3,7 @@ use Prim.Native.Nat.{ℕ, _+_, _-_, _≤_, _<_}
 use native.Mathlib.Omega.{arith}
 use mathlib.Core.Path.{_≡_, refl, _∙_}
 use mathlib.Core.List.{List, [], _∷_, _++_}
+use mathlib.Core.Bool.{Bool}
 use lib.Ieee.{Float}
 use lib.ListN.{length, drop, set}
 use Rattle.reg_matrix.specs.Lists.{bit}
@@ -10,14 +11,20 @@ use Rattle.reg_matrix.specs.declared.ValueSegment.{ValueSegment}
 use Rattle.job.specs.declared.Hint.{Hint}
 use Rattle.job.specs.declared.VirtRegFields.{VirtRegFields}
 use Rattle.job.specs.Model.{VirtReg}
-use Rattle.job.specs.Parser.{parsed, ifBit}
-use Rattle.job.specs.Load.{hints, segments, virtRegFields, virtRegAt, virtRegAfter}
+use Rattle.job.specs.Parser.{parsed, ifBit, each}
+use Rattle.job.specs.Load.{countOf, hints, segments, virtRegFields, virtRegAt, virtRegAfter}
+use Rattle.job.proofs.Lists.{starts-length}
 use Rattle.reader.specs.declared.read.Number.the-variants.{Is as IsNumber}
-use Rattle.reader.specs.Read.{Counted, HintsAt, SegmentsAt, VirtsAt, hintsOfAll, segmentsOfAll, hintStarts, segmentStarts}
-use Rattle.reader.proofs.Reading.{Reading, more}
+use Rattle.reader.specs.declared.read.Number.{Number}
+use Rattle.reader.specs.Read.{Num, tableOf, Counted, HintsAt, SegmentsAt, VirtsAt, hintsOfAll, segmentsOfAll, hintStarts, segmentStarts}
+use Rattle.reader.proofs.Answers.{took-num}
+use Rattle.reader.proofs.Reading.{Reading, more, each-length}
 use Rattle.reader.proofs.Stores.{more-stored, stored-append}
-use Rattle.reader.proofs.Tables.{concat-more, concat-length, starts-length, starts-then, joined, virt-is, hintsIn-length, segmentsIn-length}
-use Rattle.fields.specs.Virt.{VirtOut, FieldsAt}
+use Rattle.reader.proofs.Tables.{concat-more, concat-length, starts-then, counted, joined, virt-is, hintsIn-length, segmentsIn-length}
+use Rattle.fields.specs.Virt.{VirtOut, FieldsAt, VirtsOut, TableOut}
+use Rattle.fields.specs.declared.virt.VirtsRead.{VirtsRead}
+use Rattle.fields.specs.declared.virt.VirtsRead.the-variants.{Is as AreVirts}
+use Rattle.fields.specs.declared.virt.VirtTable.the-variants.{Is as IsTable}
 use Rattle.fields.specs.declared.virt.VirtRead.the-variants.{Is as IsVirt}
 
 -- one, from its fields, its hints and its segments
@@ -89,4 +96,27 @@ virts-more s count start regs classes at h g i k l next f v lt o p eh eg =
         tos = rw concat-more (stored-append (v .8 .tos) ng (o .6 .tos));
         values = rw concat-more (stored-append (v .8 .values) ng (o .6 .values));
       },
+    )
+
+-- the table: its count, and then as many
+pub virts-table :
+    (regs classes at : ℕ) (stands : Bool) (stored : List VirtReg → Type 0) (hs : List Hint → Type 0) (ss : List ValueSegment → Type 0)
+    {s : List ℕ} {k start h g next : ℕ} {n : Number} (r : VirtsRead)
+    → Num s at (ifBit stands 0 (countOf 2 512)) 512 n
+    → n ≡ IsNumber k start
+    → VirtsOut s (each (virtRegAfter regs classes) k [] (drop start s)) r stored hs ss
+    → r ≡ AreVirts h g next
+    → TableOut s (tableOf stands 2 512 (virtRegAfter regs classes) (drop at s)) (IsTable k h g next) stored hs ss
+virts-table regs classes at stands stored hs ss {s} {k} {start} r o e out f =
+    let w = rw f at out in (
+      w .0,
+      counted (virtRegAfter regs classes) stands 2 512 (drop at s) ∙ rw (took-num o e) (w .1),
+      each-length (virtRegAfter regs classes) k [] (drop start s) (w .1) ∙ omega arith,
+      w .2,
+      w .3,
+      w .4,
+      w .5,
+      w .6,
+      w .7,
+      w .8,
     )

@@ -7,45 +7,25 @@ use mathlib.Core.Bool.{Bool, false, _||_}
 use mathlib.Core.List.{List, [], _∷_}
 use lib.ListN.{length, getD}
 use Rattle.reg_matrix.specs.Lists.{any, anyPair, foldl, count}
-
-module _ (p : ℕ → Bool) (n i : ℕ) where
-  pub any-more : i < n → any p (count i (n - i)) ≡ (p i || any p (count (i + 1) (n - (i + 1))))
-  unfolding any count
-  any-more h =
-      let k : n - i ≡ suc (n - (i + 1)) = omega arith in
-      rw (k, add-one i)
-
-  pub any-end : n ≤ i → any p (count i (n - i)) ≡ false
-  unfolding any count
-  any-end h =
-      let k : n - i ≡ 0 = omega arith in
-      rw k
+use Rattle.reg_matrix.proofs.Places.{count-more, count-end}
 
 module _ (p : ℕ → ℕ → Bool) (n i : ℕ) where
   pub pair-more : i < n → anyPair p (count i (n - i)) ≡ (any (p i) (count (i + 1) (n - (i + 1))) || anyPair p (count (i + 1) (n - (i + 1))))
-  unfolding anyPair count
-  pair-more h =
-      let k : n - i ≡ suc (n - (i + 1)) = omega arith in
-      rw (k, add-one i)
+  unfolding anyPair
+  pair-more h = rw (count-more n i h)
 
   pub pair-end : n ≤ i → anyPair p (count i (n - i)) ≡ false
-  unfolding anyPair count
-  pair-end h =
-      let k : n - i ≡ 0 = omega arith in
-      rw k
+  unfolding anyPair
+  pair-end h = rw (count-end n i h)
 
 module _ {L : Type 0} (g : L → ℕ → L) (n i : ℕ) (l : L) where
   pub fold-more : i < n → foldl g l (count i (n - i)) ≡ foldl g (g l i) (count (i + 1) (n - (i + 1)))
-  unfolding foldl count
-  fold-more h =
-      let k : n - i ≡ suc (n - (i + 1)) = omega arith in
-      rw (k, add-one i)
+  unfolding foldl
+  fold-more h = rw (count-more n i h)
 
   pub fold-end : n ≤ i → foldl g l (count i (n - i)) ≡ l
-  unfolding foldl count
-  fold-end h =
-      let k : n - i ≡ 0 = omega arith in
-      rw k
+  unfolding foldl
+  fold-end h = rw (count-end n i h)
 
 both : (q : ℕ → ℕ → Bool) {a b c e : ℕ} → a ≡ b → c ≡ e → q a c ≡ q b e
 both q u v = rw (u, v)

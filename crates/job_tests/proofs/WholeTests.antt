@@ -25,7 +25,7 @@ use Rattle.job_tests.specs.Tests.{equalAt, memberTwice, classesDiffer, c
 use Rattle.lent.proofs.Laws.{any-default}
 use Rattle.job_tests.proofs.Places.{anys-at, pairs-at, pair-at}
 use Rattle.job.proofs.Units.{same-self}
-use Rattle.reader.proofs.Tables.{starts-length}
+use Rattle.job.proofs.Lists.{starts-length}
 use Rattle.reader.proofs.Starts.{start-is, next-start, item-at, item-below}
 
 -- what stands at a place of a slice with room

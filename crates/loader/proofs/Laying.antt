@@ -28,7 +28,7 @@ use Rattle.fields.specs.declared.whole.JobRead.the-variants.{Is, Refused}
 use Rattle.reader.specs.Read.{Stored, Laid, ClassesAt, FixedAt, VirtsAt, HintsAt, SegmentsAt, allMembers, hintsOfAll, segmentsOfAll, hintStarts, segmentStarts}
 use Rattle.fields.specs.Whole.{SizesOf, JobAt, JobOut}
 use Rattle.reader.proofs.Stores.{pad-tail, pad-stored}
-use Rattle.reader.proofs.Tables.{starts-length}
+use Rattle.job.proofs.Lists.{starts-length}
 use Rattle.loader.specs.Loading.{Lent, jobLent, sizesOf, JobLaid, Stores, later}
 use Rattle.loader.proofs.Testing.{regs-many, classes-many, virts-many}
 

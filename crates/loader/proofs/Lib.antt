@@ -1,4 +1,3 @@
-pub mod Layouts
 pub mod Testing
 pub mod Reserves
 pub mod Laying

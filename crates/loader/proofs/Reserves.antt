@@ -51,6 +51,5 @@ module _ (j : Job) (p : Premises j) {n f t u n′ f′ t′ u′ : List ℕ} (h 
       fold-at noEntry (λ l k. reserving (getD n′ k 0) (getD f′ k 0) (getD t′ k 0) (getD u′ k 0) l) put (j .fixed) 0 (cleared l)
       (λ k l m. ap (λ (i : ℕ). reserving (getD n′ i 0) (getD f′ i 0) (getD t′ i 0) (getD u′ i 0) l) (omega arith) ∙ one-is k l m) in
       rw (← e, q)
-      (reserved-all (j .fixed) l (p .sound) (p .parted)
-      (λ x m. let s = p .small-fixed x m in record { unit = s .unit; from = s .from; to = s .to; value = s .value; use-to = s .two })
+      (reserved-all (j .fixed) l (p .sound) (p .parted) (p .small-fixed)
       (p .few-fixed) a b c)

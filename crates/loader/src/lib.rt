@@ -1,7 +1,6 @@
-// Loading in code: a job's bytes into lent numbers with its table, and what upper crates read of a loaded job. Its definitions are
-// those of the crate job, whose table of refusals each must-fail edit of a definition checks without this code.
+// Loading in code: a job's bytes into lent numbers with its table. Its definitions are those of the crate job, whose table of refusals
+// each must-fail edit of a definition checks without this code.
 
-pub mod access;
 mod buffers;
 pub mod load;
 mod reserve;

@@ -8,7 +8,7 @@ use mathlib.Core.List.{List, [], _∷_}
 use lib.ListN.{length, drop, getD}
 use lib.Seq.{drop-cons}
 use lib.Count.{ones, onesIn, ones-step}
-use mathlib.Core.Bool.{Bool, true, false, _||_}
+use mathlib.Core.Bool.{Bool}
 use Rattle.reader.specs.Read.{readView, Little, Field, numView, Num}
 use Rattle.reader.specs.declared.read.Number.{Number}
 use Rattle.reader.specs.declared.read.Number.the-variants.{Is, Refused}
@@ -71,10 +71,6 @@ module _ {s : List ℕ} {at : ℕ} {stands : Bool} {n absent : ℕ} {r : Read} (
 
   pub field-small : {v p : ℕ} → r ≡ Value v p → v < 256 ^ n
   field-small e = rw e at (h .small)
-
-pub or-true : (b : Bool) → (b || true) ≡ true
-or-true true = refl
-or-true false = refl
 
 module _ {s : List ℕ} {at : ℕ} {p : Parser ℕ} {bound : ℕ} {r : Number} (h : Num s at p bound r) where
   pub no-num : {n : ℕ} → r ≡ Refused n → p (drop at s) ≡ refused n

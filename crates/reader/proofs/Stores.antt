@@ -3,29 +3,12 @@ use Prim.Native.Nat.{ℕ, suc, _+_, _-_, _≤_}
 use native.Mathlib.Omega.{arith}
 use native.Mathlib.Nat.{add-zero}
 use mathlib.Core.Path.{_≡_, refl, ap, sym, _∙_}
-use mathlib.Core.List.{List, [], _∷_, _++_, map}
+use mathlib.Core.List.{List, [], _∷_, _++_, map, map-append}
 use lib.ListN.{length, set, drop, replicate, length-map, length-append, length-replicate}
 use lib.Seq.{sets, length-sets, sets-eq}
+use Rattle.lent.proofs.Laws.{sets-append}
 use Rattle.reg_matrix.specs.Lists.{padded}
 use Rattle.reader.specs.Read.{Stored, Laid}
-
-module _ {A : Type 0} where
-  pub sets-more : (l : List A) (i : ℕ) (vs : List A) (v : A) → sets l i (vs ++ (v ∷ [])) ≡ set (sets l i vs) (i + length vs) v
-  sets-more l i [] v = rw add-zero
-  sets-more l i (w ∷ vs) v = sets-more (set l i w) (suc i) vs v ∙ ap (λ (k : ℕ). set (sets l i (w ∷ vs)) k v) (omega arith)
-
-  pub sets-append : (l : List A) (i : ℕ) (vs ws : List A) → sets l i (vs ++ ws) ≡ sets (sets l i vs) (i + length vs) ws
-  sets-append l i [] ws = rw add-zero
-  sets-append l i (v ∷ vs) ws = sets-append (set l i v) (suc i) vs ws ∙ ap (λ (k : ℕ). sets (sets l i (v ∷ vs)) k ws) (omega arith)
-
-module _ {A B : Type 0} where
-  map-more : (f : A → B) (xs : List A) (x : A) → map f (xs ++ (x ∷ [])) ≡ map f xs ++ (f x ∷ [])
-  map-more f [] x = refl
-  map-more f (y ∷ xs) x = ap (λ (t : List B). f y ∷ t) (map-more f xs x)
-
-  map-append : (f : A → B) (xs ys : List A) → map f (xs ++ ys) ≡ map f xs ++ map f ys
-  map-append f [] ys = refl
-  map-append f (x ∷ xs) ys = ap (λ (t : List B). f x ∷ t) (map-append f xs ys)
 
 module _ {A B : Type 0} {f : A → B} where
   pub none-stored : {b : List B} {g : ℕ} → Stored f b g [] b
@@ -37,7 +20,7 @@ module _ {A B : Type 0} {f : A → B} where
 
     -- a field of x stored after those of xs
     pub more-stored : (x : A) {b″ : List B} {k : ℕ} → g + length xs ≡ k → b″ ≡ set b′ k (f x) → Stored f b g (xs ++ (x ∷ [])) b″
-    more-stored x n e = record { is = e ∙ rw (h .is, map-more f xs x, sets-more, length-map, n) }
+    more-stored x n e = record { is = e ∙ rw (h .is, map-append f xs (x ∷ []), sets-append, length-map, n) }
 
     -- those of ys stored after those of xs
     pub stored-append : {ys : List A} {b″ : List B} {k : ℕ} → g + length xs ≡ k → Stored f b′ k ys b″ → Stored f b g (xs ++ ys) b″

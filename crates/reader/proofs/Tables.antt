@@ -40,11 +40,6 @@ module _ {A : Type 0} (size : A → ℕ) where
   starts-more at [] x = refl
   starts-more at (y ∷ xs) x = ap (λ (t : List ℕ). at ∷ t) (starts-more (at + size y) xs x)
 
-  pub starts-length : (at : ℕ) (xs : List A) → length (startsFrom size at xs) ≡ length xs + 1
-  unfolding startsFrom
-  starts-length at [] = refl
-  starts-length at (x ∷ xs) = omega (arith, starts-length (at + size x) xs)
-
 -- the starts with one more, where k stands after those of xs
 module _ {A B : Type 0} (f : A → List B) where
   pub starts-then : (xs : List A) (x : A) {k : ℕ} → length (concatMap f xs) + length (f x) ≡ k → startsFrom (λ y. length (f y)) 0 (xs ++ (x ∷ [])) ≡ startsFrom (λ y. length (f y)) 0 xs ++ (k ∷ [])

@@ -4,7 +4,7 @@ use mathlib.Core.Path.{sym}
 use borrow.Author.Tests.{le-leb, lt-leb}
 use Rattle.reader.proofs.Answers.{short, took, took-small}
 use Rattle.job.specs.Load.{hint}
-use Rattle.fields.proofs.WeightBits.{hint-bad, hint-good, not-nan}
+use Rattle.job.proofs.WeightBits.{hint-bad, hint-good, not-nan}
 use Rattle.fields.proofs.virt.hint.Statement.{statement}
 use Rattle.fields.proofs.virt.hint.Tie as tie
 

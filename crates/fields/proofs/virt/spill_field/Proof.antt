@@ -4,7 +4,7 @@ use mathlib.Core.Path.{sym}
 use borrow.Author.Tests.{eq-eqb, ne-eqb}
 use Rattle.reader.proofs.Answers.{short, took}
 use Rattle.job.specs.Load.{spillBits}
-use Rattle.fields.proofs.WeightBits.{spill-bad, spill-good}
+use Rattle.job.proofs.WeightBits.{spill-bad, spill-good}
 use Rattle.fields.proofs.virt.spill_field.Statement.{statement}
 use Rattle.fields.proofs.virt.spill_field.Tie as tie
 

@@ -4,7 +4,7 @@ use mathlib.Core.Path.{sym}
 use borrow.Author.Tests.{le-leb, lt-leb, eq-eqb, ne-eqb}
 use Rattle.reader.proofs.Answers.{short, took, no-num, took-num, num-small, short-field, took-field, field-small}
 use Rattle.job.specs.Load.{virtRegFields}
-use Rattle.fields.proofs.WeightBits.{not-nan}
+use Rattle.job.proofs.WeightBits.{not-nan}
 use Rattle.fields.proofs.virt.virt_fields.Statement.{statement}
 use Rattle.fields.proofs.virt.virt_fields.Tie as tie
 

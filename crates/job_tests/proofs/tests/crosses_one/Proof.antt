@@ -6,7 +6,7 @@ use native.Mathlib.Omega.{arith}
 use lib.ListN.{getD}
 use Rattle.reg_matrix.specs.Lists.{any, count}
 use Rattle.job_tests.specs.Tests.{crosses}
-use Rattle.job_tests.proofs.Places.{any-more, any-end}
+use Rattle.reg_matrix.proofs.Places.{any-more, any-end}
 use Rattle.job_tests.proofs.tests.crosses_one.Statement.{statement}
 use Rattle.job_tests.proofs.tests.crosses_one.Tie as tie
 

@@ -4,7 +4,7 @@ use Prim.Native.Nat.{_-_}
 use mathlib.Core.Path.{_≡_, refl, sym, _∙_}
 use Rattle.reg_matrix.specs.Lists.{any, count}
 use Rattle.job_tests.specs.Tests.{classesDiffer}
-use Rattle.job_tests.proofs.Places.{any-more, any-end}
+use Rattle.reg_matrix.proofs.Places.{any-more, any-end}
 use Rattle.job_tests.proofs.tests.differs_later.Statement.{statement}
 use Rattle.job_tests.proofs.tests.differs_later.Tie as tie
 

@@ -5,7 +5,7 @@ use mathlib.Core.Path.{_≡_, sym, _∙_}
 use native.Mathlib.Omega.{arith}
 use Rattle.reg_matrix.specs.Lists.{any, count}
 use Rattle.job_tests.specs.Tests.{memberTwice}
-use Rattle.job_tests.proofs.Places.{any-more, any-end}
+use Rattle.reg_matrix.proofs.Places.{any-more, any-end}
 use Rattle.job_tests.proofs.tests.register_repeats.Statement.{statement}
 use Rattle.job_tests.proofs.tests.register_repeats.Tie as tie
 

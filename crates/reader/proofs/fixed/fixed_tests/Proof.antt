@@ -2,7 +2,7 @@ use borrow.Author.Needs.{needs}
 use native.Mathlib.Omega.{arith}
 use mathlib.Core.Path.{sym, _≡_, _∙_}
 use Prim.Native.Nat.{_+_, _/_, _%_}
-use Rattle.reader.proofs.Answers.{or-true}
+use mathlib.Core.Bool.{or-true}
 use Rattle.reader.proofs.Tables.{same-bits, other-bits}
 use borrow.Author.Tests.{le-leb, lt-leb, eq-eqb, ne-eqb}
 use Rattle.job.specs.Load.{fixedTests, fixedRange}

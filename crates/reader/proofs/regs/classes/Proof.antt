@@ -11,7 +11,8 @@ use Rattle.job.specs.Layout.{startsFrom}
 use Rattle.reader.specs.Read.{ClassesAt, allMembers}
 use Rattle.reader.proofs.Reading.{Reading, begin, more, stops, ends}
 use Rattle.reader.proofs.Stores.{none-stored, more-stored, stored-append, stored-length}
-use Rattle.reader.proofs.Tables.{concat-more, concat-length, starts-then, starts-length, starts-begun, starts-ended}
+use Rattle.reader.proofs.Tables.{concat-more, concat-length, starts-then, starts-begun, starts-ended}
+use Rattle.job.proofs.Lists.{starts-length}
 use Rattle.reader.proofs.regs.classes.Statement.{statement}
 use Rattle.reader.proofs.regs.classes.Tie as tie
 
