@@ -29,10 +29,10 @@ use Rattle.allocator.proofs.Accepted.{all-pass, Placeable, placing-accepted, ev
 use Rattle.allocator.proofs.Good.{Good, good-reached, placeable-idle}
 use Rattle.allocator.proofs.Records.{holder-stays, held-record, idle-record, give-records, lose-records, lose-last}
 use Rattle.stage.proofs.ReachedMoves.{evict-held}
-use Rattle.context.specs.Deciding.{flagIn}
+use Rattle.decisions.specs.Deciding.{flagIn, regIn}
 use Rattle.context.specs.Standing.{JobStands}
 use Rattle.context.specs.Carrying.{Taken, TakenBack}
-use Rattle.calls.specs.Testing.{regIn, placeTests, evictTests}
+use Rattle.calls.specs.Testing.{placeTests, evictTests}
 use Rattle.context.specs.Running.{lentState}
 use Rattle.calls.specs.Calling.{refusalNumber, valueNumber, sizesOf, StateStands, unknownTo, clearTo, placeAnswer, evictAnswer, Placed, Evicted}
 use Rattle.calls.proofs.RefusalLaws.{none-placing, none-evicting, named-read, clear-read, held-is, placing-tests, evicting-tests, refused-first}

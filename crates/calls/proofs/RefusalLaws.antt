@@ -26,6 +26,7 @@ use Rattle.job.specs.Layout.{JobBuffers, jobBuffers}
 use Rattle.job.specs.Load.{badHintBits}
 use Rattle.job.proofs.Premises.{Finite, IsNumber}
 use Rattle.job.proofs.Weights.{finite-hint, neither}
+use Rattle.job.proofs.WeightBits.{nan-bits, hint-good}
 use Rattle.allocator.specs.declared.Assignment.{Assignment}
 use Rattle.allocator.specs.declared.CandidateReg.{CandidateReg}
 use Rattle.allocator.specs.State.{State, heldBy, isLeftOver, flag, isUnassigned, checkOf, assignment, recordOf}
@@ -36,11 +37,11 @@ use Rattle.allocator.proofs.Records.{held-record}
 use Rattle.stage.specs.AllocateWalk.{reportsOn}
 use Rattle.stage.proofs.Reached.{reports-are}
 use Rattle.stage.proofs.ReachedSearch.{map-read}
-use Rattle.context.specs.Deciding.{shareOf, lentTo, classIn}
+use Rattle.decisions.specs.Deciding.{shareOf, lentTo, classIn, isHeld, regIn}
 use Rattle.context.specs.Standing.{JobReads, TableStands}
 use Rattle.context.proofs.Shares.{hint-regs-share}
 use Rattle.context.proofs.Decision.{field-read, laid-out, search-lent, class-is}
-use Rattle.calls.specs.Testing.{isFree, isHeld, regIn, hintedAt, namedIn, unknownIn, clearAt, placeTests, evictTests}
+use Rattle.calls.specs.Testing.{isFree, hintedAt, namedIn, unknownIn, clearAt, placeTests, evictTests}
 
 -- ---- lists of tests
 
@@ -110,9 +111,6 @@ bad-signed (suc x) t = go (eqb (suc x) (ones binary32)) (eqb t 0)
     go true false = tt
     go false b = bad-odd _ (hid binary32 + t) x _
 
-nan-bits : (b : ℕ) → b < 2147483648 → nanBits binary32 b ≡ ltb 0x7F80_0000 b
-nan-bits b h = nanBits-above binary32 b ∙ ap (ltb 0x7F80_0000) (mod-eq-of-lt h)
-
 bad-above : (b : ℕ) → 0x7F80_0000 ≤ b → T (badWeight (ofBits binary32 b))
 unfolding ofBits ofFields
 bad-above b h = ⊎-elim (λ e. subst (λ (n : ℕ). T (badWeight (ofBits binary32 n))) e infinite) past (eq-or-lt-of-le h)
@@ -130,19 +128,13 @@ bad-above b h = ⊎-elim (λ e. subst (λ (n : ℕ). T (badWeight (ofBits binary
         not-number t =
             rw (bad-nan (ofBits binary32 b) (sym (nanBits-is binary32 b) ∙ nan-bits b (nleb→lt 2147483648 b t) ∙ lt-ltb 0x7F80_0000 b l)) tt
 
-pub not-nan : (b : ℕ) → b < 0x7F80_0000 → nanBits binary32 b ≡ false
-not-nan b h = nan-bits b (omega arith) ∙ le-ltb 0x7F80_0000 b (omega arith)
-
-good-below : (b : ℕ) → b < 0x7F80_0000 → T (not (badHintBits b))
-good-below b h = rw (lt-leb 2147483648 b (omega arith), not-nan b h, ne-eqb b 0x7F80_0000 (λ e. omega arith)) tt
-
 -- refusal 9 by the bits: infinity's and all above
 pub bad-bits : (b : ℕ) → leb 0x7F80_0000 b ≡ badWeight (ofBits binary32 b)
 bad-bits b = go (leb 0x7F80_0000 b) refl
   where
     go : (t : Bool) → leb 0x7F80_0000 b ≡ t → t ≡ badWeight (ofBits binary32 b)
     go true e = sym (is-true _ (bad-above b (leb→le 0x7F80_0000 b (subst T (sym e) tt))))
-    go false e = sym (good-finite (ofBits binary32 b) (finite-hint b (good-below b (nleb→lt 0x7F80_0000 b (subst (λ (z : Bool). T (not z)) (sym e) tt)))))
+    go false e = sym (good-finite (ofBits binary32 b) (finite-hint b (rw (hint-good b (nleb→lt 0x7F80_0000 b (subst (λ (z : Bool). T (not z)) (sym e) tt))) tt)))
 
 -- ---- 8: who may have a register
 
@@ -165,20 +157,6 @@ module _ (cs cr classes sets starts hints : List ℕ) (n v r kind : ℕ) (class 
       → x ≡ namedIn cs cr classes sets starts hints n v r
   unfolding namedIn
   named-sets e t x pt px = rw (← class-names, e) (px ∙ ap (λ (t : ℕ). any (hintedAt sets starts hints t r) (count 0 n)) pt)
-
--- the numbers from here on are the rest of the whole
-module _ (p : ℕ → Bool) (n i : ℕ) where
-  pub any-more : i < n → any p (count i (n - i)) ≡ (p i || any p (count (i + 1) (n - (i + 1))))
-  unfolding any count
-  any-more h =
-      let k : n - i ≡ suc (n - (i + 1)) = omega arith in
-      rw (k, add-one i)
-
-  pub any-end : n ≤ i → any p (count i (n - i)) ≡ false
-  unfolding any count
-  any-end h =
-      let k : n - i ≡ 0 = omega arith in
-      rw k
 
 -- a test by number is one of what has the number
 any-at : {A : Type 0} (d : A) (p : A → Bool) (q : ℕ → Bool) (xs : List A) (i : ℕ) → ((k : ℕ) → k < length xs → q (i + k) ≡ p (getD xs k d))

@@ -5,7 +5,7 @@ use mathlib.Core.Path.{_≡_, refl, sym, ap, _∙_, subst}
 use mathlib.Core.Logic.{_⊎_, inl, inr}
 use mathlib.Core.List.{List, [], _∷_, _++_, map}
 use mathlib.Core.Option.{none}
-use mathlib.Core.Bool.{Bool, true, false, not, _||_}
+use mathlib.Core.Bool.{Bool, true, false, not, _||_, or-true, or-false, or-assoc}
 use lib.Dec.{T, ltb}
 use lib.ListN.{length, take, drop, getD, replicate, length-map, length-replicate}
 use lib.Seq.{sets, sets-eq, take-at}
@@ -19,6 +19,7 @@ use Rattle.job.specs.Parser.{refuse}
 use Rattle.job.specs.Load.{Bytes, wholeJob, Loaded, notLoaded, loaded, loadWith}
 use Rattle.job.specs.Layout.{JobBuffers, jobBuffers, loadLimits, startsFrom, headerOf}
 use Rattle.job.specs.declared.JobHeader.{JobHeader}
+use Rattle.job.proofs.Lists.{starts-length}
 use Rattle.allocator.specs.declared.Assignment.{Assignment}
 use Rattle.allocator.specs.declared.Assignment.the-variants.{Unassigned}
 use Rattle.allocator.specs.State.{freshState, assignment, recordOf, records}
@@ -29,7 +30,7 @@ use Rattle.loader.specs.declared.load.JobLoaded.{JobLoaded}
 use Rattle.loader.specs.declared.load.JobLoaded.the-variants.{Is, Refused}
 use Rattle.loader.specs.Loading as loading
 use Rattle.loader.specs.Loading.{Lent, lent, later, LoadParts, LoadDone}
-use Rattle.stage.specs.QueueWalk.{firstWord, filled}
+use Rattle.queue.specs.QueueWalk.{firstWord, filled}
 use Rattle.stage.proofs.QueueLaws.{fresh-tournament}
 use Rattle.context.specs.Standing.{JobStands, Stands}
 use Rattle.context.specs.Running.{lentState}
@@ -39,25 +40,13 @@ use Rattle.calls.specs.Trace.{JustLoaded}
 
 -- ---- 15, for all that is lent
 
-or-true : (b : Bool) → b || true ≡ true
-or-true true = refl
-or-true false = refl
-
-or-false : (b : Bool) → b || false ≡ b
-or-false true = refl
-or-false false = refl
-
-or-assoc : (a b c : Bool) → a || (b || c) ≡ (a || b) || c
-or-assoc true b c = refl
-or-assoc false b c = refl
-
-append-short : (ls ms xs ys : List ℕ) → length ls ≡ length xs → shortBuffer (ls ++ ms) (xs ++ ys) ≡ (shortBuffer ls xs || shortBuffer ms ys)
+pub append-short : (ls ms xs ys : List ℕ) → length ls ≡ length xs → shortBuffer (ls ++ ms) (xs ++ ys) ≡ (shortBuffer ls xs || shortBuffer ms ys)
 unfolding shortBuffer
 append-short [] ms [] ys e = refl
 append-short [] ms (x ∷ xs) ys e = absurd (omega arith)
 append-short (n ∷ ls) ms [] ys e = absurd (omega arith)
 append-short (n ∷ ls) ms (x ∷ xs) ys e =
-    ap (λ (b : Bool). ltb x n || b) (append-short ls ms xs ys (omega arith)) ∙ or-assoc (ltb x n) (shortBuffer ls xs) (shortBuffer ms ys)
+    ap (λ (b : Bool). ltb x n || b) (append-short ls ms xs ys (omega arith)) ∙ sym (or-assoc (ltb x n) (shortBuffer ls xs) (shortBuffer ms ys))
 
 two-short : (q l : ℕ) → (q < 1024) ⊎ (l < 512) → shortBuffer (1024 ∷ 512 ∷ []) (q ∷ l ∷ []) ≡ true
 unfolding shortBuffer
@@ -69,11 +58,6 @@ unfolding shortBuffer
 two-long q l h k = rw (le-ltb q 1024 h, le-ltb l 512 k)
 
 -- ---- what the fresh state is
-
-starts-size : (n : ℕ) (xs : List VirtReg) → length (startsFrom (λ (x : VirtReg). length (x .hints)) n xs) ≡ length xs + 1
-unfolding startsFrom
-starts-size n [] = refl
-starts-size n (x ∷ xs) = omega (arith, starts-size (n + length (x .hints)) xs)
 
 same-map : {A : Type 0} (f : ℕ → A) (a : A) → ((v : ℕ) → f v ≡ a) → (k n : ℕ) → map f (count k n) ≡ replicate n a
 unfolding count
@@ -98,7 +82,7 @@ countOf (Is h) = h .«virt_regs»
 countOf (Refused n) = 0
 
 -- the header is the same where the answers are
-same-header : {h k : JobHeader} → Is h ≡ Is k → h ≡ k
+pub same-header : {h k : JobHeader} → Is h ≡ Is k → h ≡ k
 same-header {h} e = ap header e
   where
     header : JobLoaded → JobHeader
@@ -167,7 +151,7 @@ module _ (bytes : List ℕ) (B : JobBuffers) (S : StateBuffers) where
         here =
             ap (λ (b : Lent). take 513 (b .job .hintStarts)) p
             ∙ take-at (jobBuffers j .hintStarts) (drop 513 (B .hintStarts)) 513
-            (padded-length 513 0 (startsFrom (λ (x : VirtReg). length (x .hints)) 0 (j .virtRegs)) (omega (arith, starts-size 0 (j .virtRegs), few)))
+            (padded-length 513 0 (startsFrom (λ (x : VirtReg). length (x .hints)) 0 (j .virtRegs)) (omega (arith, starts-length (λ (x : VirtReg). length (x .hints)) 0 (j .virtRegs), few)))
 
         there : take 512 (B′ .sizes) ≡ jobBuffers j .sizes
         there =
@@ -206,14 +190,14 @@ module _ (bytes : List ℕ) (B : JobBuffers) (S : StateBuffers) where
 -- ---- the start of a trace
 
 -- what is lent behind
-abbrev behindState : StateBuffers → StateBuffers
+abbrev pub behindState : StateBuffers → StateBuffers
 behindState S = record { ends = drop maxEntries (S .ends); rests = drop maxEntries (S .rests); queue = drop 1024 (S .queue); last = drop 512 (S .last) }
 
-laid-state : (j : Job) (S : StateBuffers) → Stands j (freshState j) (behindState S) (laterState j S .ends) (laterState j S .rests) (laterState j S .queue) (laterState j S .last)
+pub laid-state : (j : Job) (S : StateBuffers) → Stands j (freshState j) (behindState S) (laterState j S .ends) (laterState j S .rests) (laterState j S .queue) (laterState j S .last)
 unfolding laterState
 laid-state j S = record { moves = record { table = record { ends-are = refl; rests-are = refl }; queue-is = refl }; last-is = refl }
 
-laid-job : (j : Job) (B : JobBuffers) (S : StateBuffers) → JobStands j (laterJob j B S)
+pub laid-job : (j : Job) (B : JobBuffers) (S : StateBuffers) → JobStands j (laterJob j B S)
 unfolding later
 laid-job j B S =
     record {

@@ -18,10 +18,10 @@ use Rattle.allocator.specs.Layout.{StateBuffers, stageLimits}
 use Rattle.allocator.specs.Calls.{Call, placing, evicting, running, Answer, refused, placed, evicted, ended, answerOf, after}
 use Rattle.allocator.specs.Reached.{Reached}
 use Rattle.allocator.specs.Run.{run}
-use Rattle.context.specs.Deciding.{flagIn}
+use Rattle.decisions.specs.Deciding.{flagIn, regIn}
 use Rattle.context.specs.Standing.{JobStands, Stands}
 use Rattle.context.specs.Running.{endingNumber}
-use Rattle.calls.specs.Testing.{regIn, namedIn, unknownIn, clearAt, placeTests, evictTests}
+use Rattle.calls.specs.Testing.{namedIn, unknownIn, clearAt, placeTests, evictTests}
 
 -- ---- an answer in numbers
 

@@ -10,23 +10,13 @@ use Rattle.matrix.specs.Walk.{lent}
 use Rattle.allocator.specs.declared.Assignment.{Assignment}
 use Rattle.allocator.specs.declared.Assignment.the-variants.{Assigned, Unassigned, Dead}
 use Rattle.stage.specs.AllocateWalk.{reportsOn}
-use Rattle.context.specs.Deciding.{shareOf}
+use Rattle.decisions.specs.Deciding.{shareOf, isHeld}
 
--- what a record says
+-- whether a record waits for a register
 abbrev pub isFree : Assignment → Bool
 isFree (Assigned f r w) = false
 isFree (Unassigned f) = true
 isFree Dead = false
-
-abbrev pub isHeld : Assignment → Bool
-isHeld (Assigned f r w) = true
-isHeld (Unassigned f) = false
-isHeld Dead = false
-
-abbrev pub regIn : Assignment → ℕ
-regIn (Assigned f r w) = r
-regIn (Unassigned f) = 0
-regIn Dead = 0
 
 -- the number k is in the set t, and a hint of it names r
 abbrev pub hintedAt : List ℕ → List ℕ → List ℕ → ℕ → ℕ → ℕ → Bool

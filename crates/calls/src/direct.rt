@@ -4,16 +4,16 @@ ghost use Prim.Native.Nat.{_<_};
 ghost use lib.Ieee.{binary32, ofBits};
 ghost use lib.ListN.{getD, set};
 ghost use Rattle.allocator.specs.declared.Assignment.the-variants.{Dead};
-ghost use Rattle.calls.specs.Testing.{regIn};
 ghost use Rattle.context.specs.Running.{lentJob, lentState};
 ghost use Rattle.calls.specs.Calling.{placeAnswer, Placed, Evicted};
 use crate::refusals::evict_refusal;
 use crate::refusals::place_refusal;
 use crate::refusals::short_buffers;
 use allocator::Assignment;
+use context::carry::reg_of;
 use context::carry::take;
 use context::carry::take_back;
-use context::decide::flag_of;
+use decisions::flag_of;
 use job::JobHeader;
 
 // The record of v. A number above 511 has none.
@@ -48,23 +48,6 @@ fn weight_of(bits: u32) -> f32
         return 0.0;
     }
     f32::from_bits(bits)
-}
-
-// The register that a record says is held, or 0.
-fn reg_of(a: Assignment) -> u8
-    ensures { λ r. ⌜ r ≡ regIn a ⌝ }
-{
-    match a {
-        Assignment::Assigned {
-            evicted_for_preference: _,
-            reg,
-            preference_weight: _,
-        } => reg,
-        Assignment::Unassigned {
-            evicted_for_preference: _,
-        } => 0,
-        Assignment::Dead => 0,
-    }
 }
 
 fn wide(x: u8) -> u64

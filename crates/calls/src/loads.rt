@@ -5,7 +5,7 @@ ghost use Rattle.calls.specs.StageLoading.{StageLoadDone, firstRecords};
 use allocator::Assignment;
 use lent::pad8;
 use loader::load::JobLoaded;
-use stage::queue::init;
+use queue::init;
 
 // The initial standing of all virtual registers: unassigned, with the flag off.
 pub fn first_records() -> [Assignment; 512]

@@ -7,16 +7,17 @@ ghost use Rattle.reg_matrix.specs.Lists.{any, count};
 ghost use Rattle.reg_matrix.specs.Refusals.{refusal, shortBuffer};
 ghost use Rattle.matrix.specs.Walk.{refusalNumber as numberOf};
 ghost use Rattle.allocator.specs.Layout.{stageLimits};
-ghost use Rattle.calls.specs.Testing.{isFree, isHeld, hintedAt, namedIn, unknownIn, clearAt, placeTests, evictTests};
+ghost use Rattle.calls.specs.Testing.{isFree, hintedAt, namedIn, unknownIn, clearAt, placeTests, evictTests};
 use allocator::Assignment;
-use context::parts::of8;
-use context::parts::of16;
-use context::parts::of32;
+use context::carry::is_assigned;
+use decisions::parts::of8;
+use decisions::parts::of16;
+use decisions::parts::of32;
 use lent::at;
 use lent::at8;
 use lent::at16;
+use order::has_reg;
 use stage::allocate::is_clear;
-use stage::order::has_reg;
 
 // Whether a buffer is below its limit, or another one is.
 fn or_short(size: usize, limit: usize, other: bool) -> bool
@@ -197,22 +198,6 @@ fn is_free(a: Assignment) -> bool
     }
 }
 
-fn is_held(a: Assignment) -> bool
-    ensures { λ r. ⌜ r ≡ isHeld a ⌝ }
-{
-    match a {
-        Assignment::Assigned {
-            evicted_for_preference: _,
-            reg: _,
-            preference_weight: _,
-        } => true,
-        Assignment::Unassigned {
-            evicted_for_preference: _,
-        } => false,
-        Assignment::Dead => false,
-    }
-}
-
 // The refusal of a placement, or 0: 15, 8, 9, 13, 14. It is told whether a buffer is short; the weight comes as binary32 bits, and `a` is the record of
 // v.
 pub fn place_refusal(
@@ -290,7 +275,7 @@ pub fn evict_refusal(short: bool, a: Assignment, virt_regs: u16, v: u16) -> u64
     if virt_regs <= v {
         return 8;
     }
-    if !is_held(a) {
+    if !is_assigned(a) {
         return 13;
     }
     0

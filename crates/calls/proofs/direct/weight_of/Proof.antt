@@ -1,6 +1,6 @@
 use borrow.Author.Needs.{needs}
 use native.Mathlib.Omega.{arith}
-use Rattle.calls.proofs.RefusalLaws.{not-nan}
+use Rattle.job.proofs.WeightBits.{not-nan}
 use Rattle.calls.proofs.direct.weight_of.Statement.{statement}
 use Rattle.calls.proofs.direct.weight_of.Tie as tie
 
@@ -8,7 +8,7 @@ returns : tie.Need-returns
 returns c = λ l. absurd (omega (arith, l, c .if1 .taken))
 
 float-from-bits-result : tie.Need-float-from-bits-result
-float-from-bits-result c = rw (not-nan (c .before .args .bits) (c .if1 .left)) tt
+float-from-bits-result c = rw (not-nan (c .before .args .bits) (omega (arith, c .if1 .left))) tt
 
 returns-2 : tie.Need-returns-2
 returns-2 c = search needs

@@ -5,7 +5,7 @@ use mathlib.Core.Path.{_≡_, sym, _∙_}
 use native.Mathlib.Omega.{arith}
 use Rattle.reg_matrix.specs.Lists.{any, count}
 use Rattle.calls.specs.Testing.{hintedAt}
-use Rattle.calls.proofs.RefusalLaws.{any-more, any-end}
+use Rattle.reg_matrix.proofs.Places.{any-more, any-end}
 use Rattle.calls.proofs.refusals.set_names.Statement.{statement}
 use Rattle.calls.proofs.refusals.set_names.Tie as tie
 

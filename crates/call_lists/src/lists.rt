@@ -1,0 +1,407 @@
+// Lists of calls in lent numbers, carried out one after another: placements, evictions and runs as `Context::assign`, `evict` and `Allocator::run`
+// (`allocator/mod.rs`) make them. Document 01, "Order" and "Holding".
+ghost use mathlib.Core.Path.{_≡_};
+ghost use mathlib.Core.Bool.{cond};
+ghost use Prim.Native.Nat.{_+_, _<_};
+ghost use lib.Dec.{eqb};
+ghost use lib.ListN.{getD, drop};
+ghost use Rattle.context.specs.Running.{lentJob, lentState};
+ghost use Rattle.calls.specs.Calling.{sizesOf};
+ghost use Rattle.call_lists.specs.Listed.{capped, callOf, hasCall, CallAnswered, CallStored, ListDone, ListCarriedOut};
+use allocator::Assignment;
+use calls::direct::assign;
+use calls::direct::evict;
+use calls::runs::run;
+use job::JobHeader;
+use lent::at;
+use lent::put;
+
+// The number, or the greatest that 8 bits hold. No job has so many registers.
+fn capped8(x: u64) -> u8
+    ensures { λ r. ⌜ r ≡ capped 255 x ⌝ }
+{
+    if x <= 255 { x as u8 } else { 255 }
+}
+
+// The number, or the greatest that 16 bits hold. No job has so many virtual registers.
+fn capped16(x: u64) -> u16
+    ensures { λ r. ⌜ r ≡ capped 65535 x ⌝ }
+{
+    if x <= 65535 { x as u16 } else { 65535 }
+}
+
+// The bits, or the greatest that 32 bits hold, which are no number's.
+fn capped32(x: u64) -> u32
+    ensures { λ r. ⌜ r ≡ capped 0xFFFF_FFFF x ⌝ }
+{
+    if x <= 0xFFFF_FFFF {
+        x as u32
+    } else {
+        0xFFFF_FFFF
+    }
+}
+
+// The register that a placement gave, or 0 where it was refused.
+fn reg_given(refusal: u64, reg: u8) -> u64
+    ensures { λ r. ⌜ r ≡ cond (eqb refusal 0) reg 0 ⌝ }
+{
+    if refusal == 0 { reg as u64 } else { 0 }
+}
+
+// Carries out one call. Its refusal's number or 0, its word's number or 0, and its register or dequeues go through the last three.
+fn carry_out_call(
+    records: [Assignment; 512],
+    header: JobHeader,
+    kind: u64,
+    number: u64,
+    reg: u64,
+    weight: u64,
+    maps: &[u64],
+    class_starts: &[u16],
+    class_regs: &[u8],
+    uses: &[u64],
+    classes: &[u8],
+    sets: &[u16],
+    spills: &[f32],
+    sizes: &[u32],
+    hint_starts: &[u16],
+    hint_regs: &[u8],
+    hint_weights: &[f32],
+    segment_starts: &[u16],
+    froms: &[u32],
+    tos: &[u32],
+    values: &[u16],
+    ends: &mut [u64],
+    rests: &mut [u64],
+    queue: &mut [u64],
+    last: &mut [u8],
+    refusal: &mut u64,
+    ending: &mut u64,
+    value: &mut u64,
+) -> [Assignment; 512]
+    ensures { λ r. ⌜ CallAnswered header (lentJob (now (maps .entry)) (now («class_starts» .entry)) (now («class_regs» .entry)) (now (uses .entry)) (now (classes .entry)) (now (sets .entry)) (now (spills .entry)) (now (sizes .entry)) (now («hint_starts» .entry)) (now («hint_regs» .entry)) (now («hint_weights» .entry)) (now («segment_starts» .entry)) (now (froms .entry)) (now (tos .entry)) (now (values .entry))) (callOf (sizesOf (lentJob (now (maps .entry)) (now («class_starts» .entry)) (now («class_regs» .entry)) (now (uses .entry)) (now (classes .entry)) (now (sets .entry)) (now (spills .entry)) (now (sizes .entry)) (now («hint_starts» .entry)) (now («hint_regs» .entry)) (now («hint_weights» .entry)) (now («segment_starts» .entry)) (now (froms .entry)) (now (tos .entry)) (now (values .entry))) (lentState (now (ends .entry)) (now (rests .entry)) (now (queue .entry)) (now (last .entry)))) kind number reg weight) (lentState (now (ends .entry)) (now (rests .entry)) (now (queue .entry)) (now (last .entry))) records (lentState (now (ends .exit)) (now (rests .exit)) (now (queue .exit)) (now (last .exit))) r (now (refusal .exit)) (now (ending .exit)) (now (value .exit)) ⌝ }
+{
+    if kind == 1 {
+        let v = capped16(number);
+        let named = capped8(reg);
+        let bits = capped32(weight);
+        let mut refused: u64 = 0;
+        let after = assign(
+            records,
+            header,
+            v,
+            named,
+            bits,
+            maps,
+            class_starts,
+            class_regs,
+            uses,
+            classes,
+            sets,
+            spills,
+            sizes,
+            hint_starts,
+            hint_regs,
+            hint_weights,
+            segment_starts,
+            froms,
+            tos,
+            values,
+            ends,
+            rests,
+            queue,
+            last,
+            &mut refused,
+        );
+        *refusal = refused;
+        *ending = 0;
+        *value = reg_given(refused, named);
+        return after;
+    }
+    *ending = 0;
+    if kind == 2 {
+        let v = capped16(number);
+        return evict(
+            records,
+            header,
+            v,
+            maps,
+            class_starts,
+            class_regs,
+            uses,
+            classes,
+            sets,
+            spills,
+            sizes,
+            hint_starts,
+            hint_regs,
+            hint_weights,
+            segment_starts,
+            froms,
+            tos,
+            values,
+            ends,
+            rests,
+            queue,
+            last,
+            refusal,
+            value,
+        );
+    }
+    run(
+        records,
+        number,
+        maps,
+        class_starts,
+        class_regs,
+        uses,
+        classes,
+        sets,
+        spills,
+        sizes,
+        hint_starts,
+        hint_regs,
+        hint_weights,
+        segment_starts,
+        froms,
+        tos,
+        values,
+        ends,
+        rests,
+        queue,
+        last,
+        refusal,
+        ending,
+        value,
+    )
+}
+
+// Whether four words of a call stand from place `from` on.
+fn has_call(list: &[u64], from: usize) -> bool
+    ensures { λ r. ⌜ r ≡ hasCall (drop from (now (list .entry))) ⌝ }
+{
+    if list.len() < 4 {
+        return false;
+    }
+    if list.len() - 4 < from {
+        return false;
+    }
+    let kind = at(list, from);
+    if kind < 1 {
+        return false;
+    }
+    if 3 < kind {
+        return false;
+    }
+    true
+}
+
+// Carries out the call whose words stand from place `from` on, and stores its three numbers from place `to` of the answers on.
+fn store_call(
+    records: [Assignment; 512],
+    header: JobHeader,
+    list: &[u64],
+    from: usize,
+    maps: &[u64],
+    class_starts: &[u16],
+    class_regs: &[u8],
+    uses: &[u64],
+    classes: &[u8],
+    sets: &[u16],
+    spills: &[f32],
+    sizes: &[u32],
+    hint_starts: &[u16],
+    hint_regs: &[u8],
+    hint_weights: &[f32],
+    segment_starts: &[u16],
+    froms: &[u32],
+    tos: &[u32],
+    values: &[u16],
+    ends: &mut [u64],
+    rests: &mut [u64],
+    queue: &mut [u64],
+    last: &mut [u8],
+    answers: &mut [u64],
+    to: usize,
+) -> [Assignment; 512]
+    requires { ⌜ (from + 3 < 0x1_0000_0000_0000_0000) × (to + 2 < 0x1_0000_0000_0000_0000) ⌝ }
+    ensures { λ r. ⌜ CallStored header (lentJob (now (maps .entry)) (now («class_starts» .entry)) (now («class_regs» .entry)) (now (uses .entry)) (now (classes .entry)) (now (sets .entry)) (now (spills .entry)) (now (sizes .entry)) (now («hint_starts» .entry)) (now («hint_regs» .entry)) (now («hint_weights» .entry)) (now («segment_starts» .entry)) (now (froms .entry)) (now (tos .entry)) (now (values .entry))) (callOf (sizesOf (lentJob (now (maps .entry)) (now («class_starts» .entry)) (now («class_regs» .entry)) (now (uses .entry)) (now (classes .entry)) (now (sets .entry)) (now (spills .entry)) (now (sizes .entry)) (now («hint_starts» .entry)) (now («hint_regs» .entry)) (now («hint_weights» .entry)) (now («segment_starts» .entry)) (now (froms .entry)) (now (tos .entry)) (now (values .entry))) (lentState (now (ends .entry)) (now (rests .entry)) (now (queue .entry)) (now (last .entry)))) (getD (now (list .entry)) from 0) (getD (now (list .entry)) (from + 1) 0) (getD (now (list .entry)) (from + 2) 0) (getD (now (list .entry)) (from + 3) 0)) (lentState (now (ends .entry)) (now (rests .entry)) (now (queue .entry)) (now (last .entry))) records (lentState (now (ends .exit)) (now (rests .exit)) (now (queue .exit)) (now (last .exit))) r (now (answers .entry)) to (now (answers .exit)) ⌝ }
+{
+    let mut refusal: u64 = 0;
+    let mut ending: u64 = 0;
+    let mut value: u64 = 0;
+    let after = carry_out_call(
+        records,
+        header,
+        at(list, from),
+        at(list, from + 1),
+        at(list, from + 2),
+        at(list, from + 3),
+        maps,
+        class_starts,
+        class_regs,
+        uses,
+        classes,
+        sets,
+        spills,
+        sizes,
+        hint_starts,
+        hint_regs,
+        hint_weights,
+        segment_starts,
+        froms,
+        tos,
+        values,
+        ends,
+        rests,
+        queue,
+        last,
+        &mut refusal,
+        &mut ending,
+        &mut value,
+    );
+    put(answers, to, refusal);
+    put(answers, to + 1, ending);
+    put(answers, to + 2, value);
+    after
+}
+
+// Carries out the calls of the list one after another. `done` takes how many there were.
+fn carry_out_calls(
+    records: [Assignment; 512],
+    header: JobHeader,
+    list: &[u64],
+    maps: &[u64],
+    class_starts: &[u16],
+    class_regs: &[u8],
+    uses: &[u64],
+    classes: &[u8],
+    sets: &[u16],
+    spills: &[f32],
+    sizes: &[u32],
+    hint_starts: &[u16],
+    hint_regs: &[u8],
+    hint_weights: &[f32],
+    segment_starts: &[u16],
+    froms: &[u32],
+    tos: &[u32],
+    values: &[u16],
+    ends: &mut [u64],
+    rests: &mut [u64],
+    queue: &mut [u64],
+    last: &mut [u8],
+    answers: &mut [u64],
+    done: &mut u64,
+) -> [Assignment; 512]
+    ensures { λ r. ⌜ ListDone header (lentJob (now (maps .entry)) (now («class_starts» .entry)) (now («class_regs» .entry)) (now (uses .entry)) (now (classes .entry)) (now (sets .entry)) (now (spills .entry)) (now (sizes .entry)) (now («hint_starts» .entry)) (now («hint_regs» .entry)) (now («hint_weights» .entry)) (now («segment_starts» .entry)) (now (froms .entry)) (now (tos .entry)) (now (values .entry))) (now (list .entry)) (lentState (now (ends .entry)) (now (rests .entry)) (now (queue .entry)) (now (last .entry))) records (now (answers .entry)) (lentState (now (ends .exit)) (now (rests .exit)) (now (queue .exit)) (now (last .exit))) r (now (answers .exit)) (now (done .exit)) ⌝ }
+{
+    let mut all = records;
+    let mut from: usize = 0;
+    let mut to: usize = 0;
+    let mut calls: u64 = 0;
+    while has_call(list, from) {
+        let after = store_call(
+            all,
+            header,
+            list,
+            from,
+            maps,
+            class_starts,
+            class_regs,
+            uses,
+            classes,
+            sets,
+            spills,
+            sizes,
+            hint_starts,
+            hint_regs,
+            hint_weights,
+            segment_starts,
+            froms,
+            tos,
+            values,
+            ends,
+            rests,
+            queue,
+            last,
+            answers,
+            to,
+        );
+        all = after;
+        from += 4;
+        to += 3;
+        calls += 1;
+    }
+    *done = calls;
+    all
+}
+
+// Carries out a list of calls, one after another, each on what the last one left; a refused one changes nothing, and the next is made all the same. A
+// call is four words: its kind (1 a placement, 2 an eviction, 3 a run), a number or the run's budget, a register, and the bits of a weight; a kind
+// reads what it needs of them. A number that has no room in 16 bits, a register in 8 or bits in 32 stand for the greatest there, which is refused. The
+// list ends where four words are no longer left, or at a word that is no kind. For each call three numbers go into the answers, from their front on:
+// the refusal or 0; the word of a run (1 done, 2 spent, 3 toomany) or 0; the register given or taken away, or the dequeues. `done` takes how many
+// calls were made. `refusal` takes 0, or 15 where the answers do not have three places for each four words of the list, and then nothing is changed.
+// What returns is the records afterwards.
+pub fn carry_out_list(
+    records: [Assignment; 512],
+    header: JobHeader,
+    list: &[u64],
+    maps: &[u64],
+    class_starts: &[u16],
+    class_regs: &[u8],
+    uses: &[u64],
+    classes: &[u8],
+    sets: &[u16],
+    spills: &[f32],
+    sizes: &[u32],
+    hint_starts: &[u16],
+    hint_regs: &[u8],
+    hint_weights: &[f32],
+    segment_starts: &[u16],
+    froms: &[u32],
+    tos: &[u32],
+    values: &[u16],
+    ends: &mut [u64],
+    rests: &mut [u64],
+    queue: &mut [u64],
+    last: &mut [u8],
+    answers: &mut [u64],
+    refusal: &mut u64,
+    done: &mut u64,
+) -> [Assignment; 512]
+    ensures { λ r. ⌜ ListCarriedOut header (lentJob (now (maps .entry)) (now («class_starts» .entry)) (now («class_regs» .entry)) (now (uses .entry)) (now (classes .entry)) (now (sets .entry)) (now (spills .entry)) (now (sizes .entry)) (now («hint_starts» .entry)) (now («hint_regs» .entry)) (now («hint_weights» .entry)) (now («segment_starts» .entry)) (now (froms .entry)) (now (tos .entry)) (now (values .entry))) (now (list .entry)) (lentState (now (ends .entry)) (now (rests .entry)) (now (queue .entry)) (now (last .entry))) records (now (answers .entry)) (lentState (now (ends .exit)) (now (rests .exit)) (now (queue .exit)) (now (last .exit))) r (now (answers .exit)) (now (refusal .exit)) (now (done .exit)) ⌝ }
+{
+    if answers.len() / 3 < list.len() / 4 {
+        *refusal = 15;
+        *done = 0;
+        return records;
+    }
+    *refusal = 0;
+    carry_out_calls(
+        records,
+        header,
+        list,
+        maps,
+        class_starts,
+        class_regs,
+        uses,
+        classes,
+        sets,
+        spills,
+        sizes,
+        hint_starts,
+        hint_regs,
+        hint_weights,
+        segment_starts,
+        froms,
+        tos,
+        values,
+        ends,
+        rests,
+        queue,
+        last,
+        answers,
+        done,
+    )
+}
