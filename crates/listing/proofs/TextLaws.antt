@@ -11,12 +11,9 @@ use lib.Dec.{ltb}
 use lib.ListN.{length, getD, set, drop, length-append}
 use lib.Seq.{sets, drop-cons, drop-length, append-snoc}
 use borrow.Author.Tests.{lt-ltb, le-ltb}
+use Rattle.lent.proofs.Laws.{sets-append}
 use Rattle.reg_matrix.specs.Lines.{digits, number}
 use Rattle.listing.specs.Texts.{Appended}
-
-sets-append : (l : List ℕ) (i : ℕ) (vs ws : List ℕ) → sets l i (vs ++ ws) ≡ sets (sets l i vs) (i + length vs) ws
-sets-append l i [] ws = rw add-zero
-sets-append l i (v ∷ vs) ws = sets-append (set l i v) (suc i) vs ws ∙ ap (λ (k : ℕ). sets (sets l i (v ∷ vs)) k ws) (omega arith)
 
 -- a text and then another
 pub then :

@@ -1,0 +1,58 @@
+-- The whole printed sheet in one buffer (document 01, "The printed sheet"). Assumes nothing.
+use Prim.Native.Nat.{ℕ}
+use mathlib.Core.Path.{_≡_}
+use mathlib.Core.List.{List}
+use mathlib.Core.Bool.{Bool, true, false}
+use lib.ListN.{length}
+use lib.Seq.{sets}
+use Rattle.reg_matrix.specs.Lists.{concatMap}
+use Rattle.reg_matrix.specs.Refusals.{shortBuffer}
+use Rattle.job.specs.Layout.{JobBuffers}
+use Rattle.allocator.specs.Layout.{StateBuffers}
+use Rattle.allocator.specs.Sheet.{sheetOf, printed}
+use Rattle.listing.specs.declared.Listing.{Listing}
+use Rattle.listing.specs.declared.Step.{Step}
+use Rattle.listing.specs.declared.Step.the-variants.{Line, End as NoMore, Refused as NotListed}
+use Rattle.listing.specs.Walk.{Lent, linesFrom}
+use Rattle.records.specs.Words.{recordsIn}
+use Rattle.sheets.specs.declared.Printing.{Printing}
+use Rattle.sheets.specs.Printing.{sheetLimits, sheetSizes, loadedWith, Begun}
+
+-- ---- an answer, part by part
+
+abbrev pub isLine : Step → Bool
+isLine (Line n after) = true
+isLine NoMore = false
+isLine (NotListed n) = false
+
+abbrev pub sizeOf : Step → ℕ
+sizeOf (Line n after) = n
+sizeOf NoMore = 0
+sizeOf (NotListed n) = 0
+
+abbrev pub afterOf : Listing → Step → Listing
+afterOf c (Line n after) = after
+afterOf c NoMore = c
+afterOf c (NotListed n) = c
+
+-- ---- the contracts
+
+-- the lines from a position on, one after another
+abbrev pub linesText : Listing → Lent → List ℕ → List ℕ
+linesText c l words = concatMap (λ x. x) (linesFrom c (recordsIn words) l)
+
+-- they stand in the buffer, which was out and is out′ afterwards, and have n bytes
+pub record LinesPrinted (c : Listing) (l : Lent) (words out out′ : List ℕ) (n : ℕ) : Type 0 where
+  pub size : n ≡ length (linesText c l words)
+  pub stored : out′ ≡ sets out 0 (linesText c l words)
+
+-- Of any bytes, with B, S and the words W lent: what is printed, and what stands in the buffers afterwards
+pub record Printed (bytes : List ℕ) (B : JobBuffers) (S : StateBuffers) (W : List ℕ) (B′ : JobBuffers) (S′ : StateBuffers) (W′ out out′ : List ℕ) (n : ℕ) : Type 0 where
+  pub answer : Printing
+  pub begun : Begun bytes B S W B′ S′ W′ answer
+  -- with the buffers that were lent
+  pub size : n ≡ length (sheetOf (loadedWith B S W bytes))
+  pub stored : out′ ≡ sets out 0 (sheetOf (loadedWith B S W bytes))
+  -- and with no short buffer
+  pub printed-size : shortBuffer sheetLimits (sheetSizes B S W) ≡ false → n ≡ length (printed bytes)
+  pub printed-stored : shortBuffer sheetLimits (sheetSizes B S W) ≡ false → out′ ≡ sets out 0 (printed bytes)

@@ -1,0 +1,157 @@
+// The whole printed sheet of a job's bytes in one lent buffer (01, "The printed sheet"), for callers that have room for it.
+ghost use mathlib.Core.Path.{_≡_};
+ghost use Prim.Native.Nat.{_+_, _≤_, _<_};
+ghost use lib.ListN.{length};
+ghost use Rattle.context.specs.Running.{lentJob, lentState};
+ghost use Rattle.listing.specs.Texts.{Appended};
+ghost use Rattle.listing.specs.Walk.{lent};
+ghost use Rattle.printout.specs.Whole.{isLine, sizeOf, afterOf, LinesPrinted, Printed};
+use lent::at8;
+use lent::part8;
+use lent::put8;
+use listing::Listing;
+use listing::Step;
+use listing::sheet::refused;
+use sheets::Printing;
+use sheets::sheet::begin;
+use sheets::sheet::next;
+
+fn is_line(step: Step) -> bool
+    ensures { λ r. ⌜ r ≡ isLine step ⌝ }
+{
+    match step {
+        Step::Line(_, _) => true,
+        Step::End => false,
+        Step::Refused(_) => false,
+    }
+}
+
+fn size_of(step: Step) -> usize
+    ensures { λ r. ⌜ r ≡ sizeOf step ⌝ }
+{
+    match step {
+        Step::Line(n, _) => n,
+        Step::End => 0,
+        Step::Refused(_) => 0,
+    }
+}
+
+// The position after a line, or the one before it where there is none.
+fn after_of(step: Step, position: Listing) -> Listing
+    ensures { λ r. ⌜ r ≡ afterOf position step ⌝ }
+{
+    match step {
+        Step::Line(_, after) => after,
+        Step::End => position,
+        Step::Refused(_) => position,
+    }
+}
+
+// Stores a text from place `at` on, and gives the place after it.
+fn text(out: &mut [u8], at: usize, bytes: &[u8]) -> usize
+    requires { ⌜ at + length (now bytes) < 4294967296 ⌝ }
+    ensures { λ r. ⌜ Appended (now (out .entry)) at (now (bytes .entry)) (now (out .exit)) r ⌝ }
+{
+    let mut i = 0;
+    while i < bytes.len() {
+        put8(out, at + i, at8(bytes, i));
+        i += 1;
+    }
+    at + i
+}
+
+// Stores the lines of a sheet from a position on, one after another, and gives how many bytes they have.
+fn print_from(
+    position: Listing,
+    maps: &[u64],
+    ends: &[u64],
+    rests: &[u64],
+    words: &[u64],
+    line: &mut [u8],
+    out: &mut [u8],
+) -> usize
+    requires { ⌜ 256 ≤ length (now line) ⌝ }
+    ensures { λ r. ⌜ LinesPrinted position (lent (now (maps .entry)) (now (ends .entry)) (now (rests .entry))) (now (words .entry)) (now (out .entry)) (now (out .exit)) r ⌝ }
+{
+    let mut c = position;
+    let mut at: usize = 0;
+    loop {
+        let step = next(c, maps, ends, rests, words, line);
+        if !is_line(step) {
+            return at;
+        }
+        at = text(out, at, part8(line, 0, size_of(step)));
+        c = after_of(step, c);
+    }
+}
+
+// The same with a line of its own.
+fn print_lines(
+    position: Listing,
+    maps: &[u64],
+    ends: &[u64],
+    rests: &[u64],
+    words: &[u64],
+    out: &mut [u8],
+) -> usize
+    ensures { λ r. ⌜ LinesPrinted position (lent (now (maps .entry)) (now (ends .entry)) (now (rests .entry))) (now (words .entry)) (now (out .entry)) (now (out .exit)) r ⌝ }
+{
+    let mut line = [0u8; 256];
+    print_from(position, maps, ends, rests, words, &mut line, out)
+}
+
+// Loads the job of these bytes, runs it with its budget and stores what is printed for it from the front of `out`: its sheet, or `refused N` alone. The
+// answer is how many bytes that has; what there is no room for is not stored. A refusal leaves everything else as it was.
+pub fn print(
+    s: &[u8],
+    maps: &mut [u64],
+    class_starts: &mut [u16],
+    class_regs: &mut [u8],
+    uses: &mut [u64],
+    classes: &mut [u8],
+    sets: &mut [u16],
+    spills: &mut [f32],
+    sizes: &mut [u32],
+    hint_starts: &mut [u16],
+    hint_regs: &mut [u8],
+    hint_weights: &mut [f32],
+    segment_starts: &mut [u16],
+    froms: &mut [u32],
+    tos: &mut [u32],
+    values: &mut [u16],
+    ends: &mut [u64],
+    rests: &mut [u64],
+    queue: &mut [u64],
+    last: &mut [u8],
+    words: &mut [u64],
+    out: &mut [u8],
+) -> usize
+    ensures { λ r. ⌜ Printed (now (s .entry)) (lentJob (now (maps .entry)) (now («class_starts» .entry)) (now («class_regs» .entry)) (now (uses .entry)) (now (classes .entry)) (now (sets .entry)) (now (spills .entry)) (now (sizes .entry)) (now («hint_starts» .entry)) (now («hint_regs» .entry)) (now («hint_weights» .entry)) (now («segment_starts» .entry)) (now (froms .entry)) (now (tos .entry)) (now (values .entry))) (lentState (now (ends .entry)) (now (rests .entry)) (now (queue .entry)) (now (last .entry))) (now (words .entry)) (lentJob (now (maps .exit)) (now («class_starts» .exit)) (now («class_regs» .exit)) (now (uses .exit)) (now (classes .exit)) (now (sets .exit)) (now (spills .exit)) (now (sizes .exit)) (now («hint_starts» .exit)) (now («hint_regs» .exit)) (now («hint_weights» .exit)) (now («segment_starts» .exit)) (now (froms .exit)) (now (tos .exit)) (now (values .exit))) (lentState (now (ends .exit)) (now (rests .exit)) (now (queue .exit)) (now (last .exit))) (now (words .exit)) (now (out .entry)) (now (out .exit)) r ⌝ }
+{
+    match begin(
+        s,
+        maps,
+        class_starts,
+        class_regs,
+        uses,
+        classes,
+        sets,
+        spills,
+        sizes,
+        hint_starts,
+        hint_regs,
+        hint_weights,
+        segment_starts,
+        froms,
+        tos,
+        values,
+        ends,
+        rests,
+        queue,
+        last,
+        words,
+    ) {
+        Printing::Refused(n) => refused(n, out),
+        Printing::At(position) => print_lines(position, maps, ends, rests, words, out),
+    }
+}

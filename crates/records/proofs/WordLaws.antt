@@ -1,0 +1,193 @@
+-- What a record's word says when it is read again. Assumes nothing.
+use Prim.Native.Nat.{ℕ, suc, _+_, _-_, _*_, _%_, _/_, _≤_, _<_, _^_}
+use native.Mathlib.Omega.{arith}
+use native.Mathlib.Nat.{mod-eq-of-lt}
+use native.Mathlib.Numerals.{add-one}
+use mathlib.Core.Path.{_≡_, refl, sym, ap, subst, _∙_}
+use mathlib.Core.List.{List, [], _∷_, _++_, map, append-nil}
+use mathlib.Core.Bool.{Bool, true, false, not, cond}
+use lib.Dec.{T, ltb, leb, eqb}
+use lib.ListN.{length, getD, set, drop, length-map, length-set}
+use lib.Seq.{sets, sets-eq, drop-cons, drop-length, getD-set-same, getD-set-other, ext-getD}
+use lib.Ieee.{Float, nan, inf, fin, binary32, ofBits, toBits, nanBits, isNan, fits, top, ne, eq}
+use lib.Ieee.Compare.{differs-from-itself}
+use lib.Ieee.Bits.{ofBits-toBits, toBits-lt, nanBits-above, nanBits-is}
+use borrow.Author.Tests.{le-ltb, ltb-false, le-leb, eqb-true, eqb-false}
+use Rattle.lent.proofs.Laws.{any-default}
+use Rattle.reg_matrix.specs.Lists.{count}
+use Rattle.reg_matrix.proofs.Places.{count-length, from-zero}
+use Rattle.job.specs.Model.{Plain}
+use Rattle.allocator.specs.declared.Assignment.{Assignment}
+use Rattle.allocator.specs.declared.Assignment.the-variants.{Assigned, Unassigned, Dead}
+use Rattle.records.specs.Words.{flagNumber, weightBits, weightIn, recordWord, Parts, byKind, recordIn, recordsIn, PlainRecord, AllPlain}
+
+-- ---- bits
+
+-- what does not differ from itself is a number
+pub is-number : (w : Float) → ne w w ≡ false → T (not (isNan w))
+unfolding isNan ne eq
+is-number nan e = absurd (subst (λ (t : Bool). T (not t)) (sym e) tt)
+is-number (inf n) e = tt
+is-number (fin n m x) e = tt
+
+nan-bits : (b : ℕ) → b < 2147483648 → nanBits binary32 b ≡ ltb 0x7F80_0000 b
+nan-bits b h = nanBits-above binary32 b ∙ ap (ltb 0x7F80_0000) (mod-eq-of-lt h)
+
+pub not-nan : (b : ℕ) → b ≤ 0x7F80_0000 → nanBits binary32 b ≡ false
+not-nan b h = nan-bits b (omega arith) ∙ le-ltb 0x7F80_0000 b h
+
+-- the sign is the highest bit
+below-sign : (w : Float) → Plain w → T (fits binary32 w) → toBits binary32 w < 2147483648
+unfolding toBits fits
+below-sign nan p h = absurd p
+below-sign (inf n) p h = rw p (omega arith)
+below-sign (fin n m x) p h = rw p (omega (arith, toBits-lt binary32 (fin true m x) h))
+
+plain-number : (w : Float) → Plain w → isNan w ≡ false
+unfolding isNan
+plain-number nan p = absurd p
+plain-number (inf n) p = refl
+plain-number (fin n m x) p = refl
+
+-- the bits of a weight are at most infinity's
+pub plain-bits : (w : Float) → Plain w → T (fits binary32 w) → toBits binary32 w ≤ 0x7F80_0000
+plain-bits w p h =
+    ltb-false 0x7F80_0000 (toBits binary32 w)
+    (sym (nan-bits (toBits binary32 w) (below-sign w p h)) ∙ nanBits-is binary32 (toBits binary32 w) ∙ ap isNan (ofBits-toBits binary32 w h) ∙ plain-number w p)
+
+-- a weight does not differ from itself
+itself : (w : Float) → Plain w → ne w w ≡ false
+itself w p = go (ne w w) refl
+  where
+    go : (t : Bool) → ne w w ≡ t → t ≡ false
+    go true e = absurd (subst Plain (differs-from-itself w (subst T (sym e) tt)) p)
+    go false e = refl
+
+-- what is read from a weight's bits is the weight
+pub weight-back : (w : Float) → fits binary32 w ≡ true → (b : ℕ) → b ≡ toBits binary32 w → Plain w → weightIn b ≡ w
+weight-back w f b e p =
+    let h : T (fits binary32 w) = subst T (sym f) tt in rw (e, le-leb (toBits binary32 w) 0x7F80_0000 (plain-bits w p h)) (ofBits-toBits binary32 w h)
+
+-- a weight has bits of its own
+pub differs-plain : (w : Float) → ne w w ≡ true → Plain w → ⊥
+differs-plain w e p = subst Plain (differs-from-itself w (subst T (sym e) tt)) p
+
+-- ---- words
+
+-- the parts of a word
+pub word-parts : (b r f x : ℕ) → b < 4294967296 → r < 256 → x ≡ b * 65536 + r * 256 + (4 + f) → f ≤ 1 → Parts x f r b
+word-parts b r f x hb hr e hf = record { kind = omega arith; reg-is = omega arith; bits-are = omega arith }
+
+flag-small : (f : Bool) → flagNumber f ≤ 1
+flag-small true = omega arith
+flag-small false = omega arith
+
+by-parts : (f : Bool) (r : ℕ) (w : Float) (k r′ b : ℕ) → k ≡ 4 + flagNumber f → r′ ≡ r → weightIn b ≡ w → byKind k r′ b ≡ Assigned f r w
+by-parts true r w k r′ b ek er eb = rw (ek, er, eb) refl
+by-parts false r w k r′ b ek er eb = rw (ek, er, eb) refl
+
+-- what is read from a record's word is the record
+pub assigned-back :
+    (a : Assignment) (f : Bool) (r : ℕ) (w : Float) → a ≡ Assigned f r w → (n b x : ℕ) → n ≡ flagNumber f → (Plain w → weightIn b ≡ w) → (n ≤ 1 → Parts x n r b)
+    → PlainRecord a → recordIn x ≡ a
+unfolding recordIn
+assigned-back a f r w ea n b x en back parts p =
+    let q = parts (rw en (flag-small f)) in
+    by-parts f r w _ _ (x / 65536 % 4294967296) (q .kind ∙ ap (λ (k : ℕ). 4 + k) en) (q .reg-is) (ap weightIn (q .bits-are) ∙ back (subst PlainRecord ea p)) ∙ sym ea
+
+pub unassigned-back : (a : Assignment) (f : Bool) → a ≡ Unassigned f → (x : ℕ) → x ≡ flagNumber f → recordIn x ≡ a
+unfolding recordIn
+unassigned-back a true ea x e = rw (e, ea) refl
+unassigned-back a false ea x e = rw (e, ea) refl
+
+pub dead-back : (a : Assignment) → a ≡ Dead → recordIn 2 ≡ a
+unfolding recordIn
+dead-back a ea = sym ea
+
+-- ---- all records, one after another
+
+-- the words of the records before i are stored: those from i on are the rest of the whole
+pub record Storing (rs : List Assignment) (ws₀ ws : List ℕ) (i : ℕ) : Type 0 where
+  pub rest : sets ws₀ 0 (map recordWord rs) ≡ sets ws i (map recordWord (drop i rs))
+  pub size : length rs ≡ 512
+  pub bound : i ≤ 512
+  pub kept : length ws ≡ length ws₀
+  pub back : AllPlain rs → 512 ≤ length ws₀ → (v : ℕ) → v < i → recordIn (getD ws v 0) ≡ getD rs v Dead
+
+pub store-start : (rs : List Assignment) (ws : List ℕ) → length rs ≡ 512 → Storing rs ws ws 0
+store-start rs ws n = record { rest = refl; size = n; bound = omega arith; kept = refl; back = λ p l v h. absurd (omega arith) }
+
+module _ {rs : List Assignment} {ws₀ ws : List ℕ} {i : ℕ} (h : Storing rs ws₀ ws i) where
+  -- one more word stored
+  pub store-more :
+      (ws′ : List ℕ) (x : ℕ) (d : Assignment) → i < 512 → (x ≡ recordWord (getD rs i d)) × (PlainRecord (getD rs i d) → recordIn x ≡ getD rs i d)
+      → ws′ ≡ set ws i x → Storing rs ws₀ ws′ (i + 1)
+  store-more ws′ x d l e e′ =
+      record {
+        rest = h .rest ∙ rw (drop-cons rs i d (omega (arith, h .size)), e′, e .0, add-one i);
+        size = h .size;
+        bound = omega arith;
+        kept = rw (e′, length-set) (h .kept);
+        back = λ p m v b. rw e′ (one p m v (eqb v i) refl b);
+      }
+    where
+      same : getD rs i d ≡ getD rs i Dead
+      same = any-default rs i d Dead (omega (arith, h .size))
+
+      one : AllPlain rs → 512 ≤ length ws₀ → (v : ℕ) (t : Bool) → eqb v i ≡ t → v < i + 1 → recordIn (getD (set ws i x) v 0) ≡ getD rs v Dead
+      one p m v true q b =
+          let k : v ≡ i = eqb-true v i q in
+          rw (k, getD-set-same ws i x 0 (omega (arith, h .kept))) (e .1 (subst PlainRecord (sym same) (p i)) ∙ same)
+      one p m v false q b = let k = eqb-false v i q in rw (getD-set-other ws i v x 0 k) (h .back p m v (omega arith))
+
+  pub store-end : 512 ≤ i → ws ≡ sets ws₀ 0 (map recordWord rs)
+  store-end l =
+      let e : i ≡ length rs = omega (arith, h .size, h .bound) in
+      sym
+      (h .rest
+      ∙ subst (λ (k : ℕ). sets ws k (map recordWord (drop k rs)) ≡ ws) (sym e)
+      (ap (λ (l : List Assignment). sets ws (length rs) (map recordWord l)) (drop-length rs)))
+
+  -- all are stored, and read again
+  pub store-back : 512 ≤ i → AllPlain rs → 512 ≤ length ws₀ → recordsIn ws ≡ rs
+  unfolding recordsIn
+  store-back l p m =
+      ext-getD Dead (map (λ v. recordIn (getD ws v 0)) (count 0 512)) rs (n ∙ sym (h .size))
+      (λ v b. let k : v < 512 = omega (arith, n) in from-zero (λ v. recordIn (getD ws v 0)) Dead 512 v k ∙ h .back p m v (omega arith))
+    where
+      n : length (map (λ v. recordIn (getD ws v 0)) (count 0 512)) ≡ 512
+      n = length-map (count 0 512) (λ v. recordIn (getD ws v 0)) ∙ count-length 0 512
+
+-- as many as there are places
+sets-whole : {A : Type 0} (vs l : List A) → length vs ≡ length l → sets l 0 vs ≡ vs
+sets-whole {A} vs l n =
+    let n′ : 0 + length vs ≡ length l = omega (arith, n) in
+    sets-eq vs l 0 (omega (arith, n)) ∙ ap (λ (k : ℕ). vs ++ drop k l) n′ ∙ ap (λ (t : List A). vs ++ t) (drop-length l) ∙ append-nil vs
+
+-- the records of the words from i on
+abbrev recordsFrom : List ℕ → ℕ → List Assignment
+recordsFrom ws i = map (λ v. recordIn (getD ws v 0)) (count i (512 - i))
+
+-- the records before i are read
+pub record Reading (ws : List ℕ) (all : List Assignment) (i : ℕ) : Type 0 where
+  pub rest : recordsIn ws ≡ sets all i (recordsFrom ws i)
+  pub size : length all ≡ 512
+
+pub read-start : (ws : List ℕ) (all : List Assignment) → length all ≡ 512 → Reading ws all 0
+unfolding recordsIn
+read-start ws all l =
+    let n : length (recordsFrom ws 0) ≡ length all = length-map (count 0 512) (λ v. recordIn (getD ws v 0)) ∙ count-length 0 512 ∙ sym l in
+    record { rest = sym (sets-whole (recordsFrom ws 0) all n); size = l }
+
+module _ {ws : List ℕ} {all : List Assignment} {i : ℕ} (h : Reading ws all i) where
+  -- one more record read
+  pub read-more :
+      (all′ : List Assignment) (x : ℕ) (a : Assignment) → i < 512 → x ≡ getD ws i 0 → a ≡ recordIn x → all′ ≡ set all i a → Reading ws all′ (i + 1)
+  unfolding count
+  read-more all′ x a l ex ea e =
+      let n : 512 - i ≡ suc (512 - (i + 1)) = omega arith in
+      record { rest = h .rest ∙ rw (n, e, ea, ex, add-one i); size = rw (e, length-set) (h .size) }
+
+  pub read-end : 512 ≤ i → all ≡ recordsIn ws
+  unfolding count
+  read-end l = let n : 512 - i ≡ 0 = omega arith in sym (h .rest ∙ rw n)
