@@ -1,0 +1,45 @@
+use borrow.Author.Needs.{needs}
+use native.Mathlib.Omega.{arith}
+use Rattle.scripts.proofs.input.skip.Statement.{statement}
+use Rattle.scripts.proofs.input.skip.Tie as tie
+
+abbrev Inv-loop : tie.InvT-loop
+Inv-loop left₀ n more₀ left more = Unit {0}
+
+abbrev μ-loop : tie.MeasureT-loop
+μ-loop left₀ n more₀ left more = more
+
+loop-holds : tie.Need-loop-holds Inv-loop μ-loop
+loop-holds c = search needs
+
+skip-some-requires : tie.Need-skip-some-requires Inv-loop μ-loop
+skip-some-requires c κs = search needs
+
+returns : tie.Need-returns Inv-loop μ-loop
+returns c = search needs
+
+less-requires : tie.Need-less-requires Inv-loop μ-loop
+less-requires c κs = search needs
+
+loop-less : tie.Need-loop-less Inv-loop μ-loop
+loop-less c = omega (arith, c .less .ensures, c .before .if1 .left)
+
+loop-again : tie.Need-loop-again Inv-loop μ-loop
+loop-again c = search needs
+
+returns-2 : tie.Need-returns-2 Inv-loop μ-loop
+returns-2 c = search needs
+
+pub skip-spec : {M : Type 1} → statement M
+skip-spec =
+    tie.close
+    (tie.spec
+    Inv-loop
+    μ-loop
+    loop-holds
+    skip-some-requires
+    returns
+    less-requires
+    loop-less
+    loop-again
+    returns-2)

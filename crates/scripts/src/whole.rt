@@ -1,0 +1,141 @@
+// A whole script: its length, its job, its calls.
+use crate::input::least;
+use crate::input::less;
+use crate::input::read_number;
+use crate::input::read_some;
+use crate::input::skip;
+use crate::making::make_calls;
+use crate::making::print_bad;
+use crate::output::print;
+use calls::loads::first_records;
+use calls::loads::load;
+use lent::part8;
+use loader::load::JobLoaded;
+use transcript::answers;
+
+// Reads a job of `length` bytes: the first 32,769 are kept, one more than a job may have, and the others are read and forgotten. Answers whether
+// they were all there.
+fn read_job(left: &mut u64, length: u64, bytes: &mut [u8]) -> bool {
+    let kept = least(length, 32769);
+    if read_some(left, kept, bytes) < kept {
+        return false;
+    }
+    skip(left, less(length, kept))
+}
+
+// Loads the job of these bytes into buffers of its own, and makes the calls on it. A refused job prints its refusal alone.
+fn run_job(bytes: &[u8], left: &mut u64, line: &mut [u8]) {
+    let mut maps = [0u64; 64];
+    let mut class_starts = [0u16; 17];
+    let mut class_regs = [0u8; 1024];
+    let mut uses = [0u64; 512];
+    let mut classes = [0u8; 512];
+    let mut sets = [0u16; 512];
+    let mut spills = [0.0f32; 512];
+    let mut sizes = [0u32; 512];
+    let mut hint_starts = [0u16; 513];
+    let mut hint_regs = [0u8; 1024];
+    let mut hint_weights = [0.0f32; 1024];
+    let mut segment_starts = [0u16; 513];
+    let mut froms = [0u32; 512];
+    let mut tos = [0u32; 512];
+    let mut values = [0u16; 512];
+    let mut ends = [0u64; 2560];
+    let mut rests = [0u64; 2560];
+    let mut queue = [0u64; 1024];
+    let mut last = [0u8; 512];
+    match load(
+        bytes,
+        &mut maps,
+        &mut class_starts,
+        &mut class_regs,
+        &mut uses,
+        &mut classes,
+        &mut sets,
+        &mut spills,
+        &mut sizes,
+        &mut hint_starts,
+        &mut hint_regs,
+        &mut hint_weights,
+        &mut segment_starts,
+        &mut froms,
+        &mut tos,
+        &mut values,
+        &mut ends,
+        &mut rests,
+        &mut queue,
+        &mut last,
+    ) {
+        JobLoaded::Refused(n) => {
+            let length = answers::refused_line(line, n as u64);
+            print(line, length);
+        }
+        JobLoaded::Is(header) => {
+            let records = first_records();
+            make_calls(
+                records,
+                header,
+                left,
+                &maps,
+                &class_starts,
+                &class_regs,
+                &uses,
+                &classes,
+                &sets,
+                &spills,
+                &sizes,
+                &hint_starts,
+                &hint_regs,
+                &hint_weights,
+                &segment_starts,
+                &froms,
+                &tos,
+                &values,
+                &mut ends,
+                &mut rests,
+                &mut queue,
+                &mut last,
+                line,
+            );
+        }
+    }
+}
+
+// Reads one script, of at most `left` bytes, and prints its transcript.
+fn print_script(left: &mut u64) {
+    let mut line = [0u8; 16384];
+    let mut bytes = [0u8; 32769];
+    let mut size: u64 = 0;
+    if !read_number(left, 4, &mut size) {
+        print_bad(&mut line);
+        return;
+    }
+    if !read_job(left, size, &mut bytes) {
+        print_bad(&mut line);
+        return;
+    }
+    let kept = least(size, 32769) as usize;
+    run_job(part8(&bytes, 0, kept), left, &mut line);
+}
+
+// Reads a script of `length` bytes, or to the input's end, and prints its transcript. What a bad script leaves unread is read and forgotten.
+pub fn run_script(length: u64) {
+    let mut left = length;
+    print_script(&mut left);
+    let rest = left;
+    skip(&mut left, rest);
+}
+
+// Reads a row of scripts, each after its length as four bytes, to the input's end, and prints their transcripts one after another.
+pub fn run_scripts() {
+    let mut turns: u64 = 0xFFFF_FFFF_FFFF_FFFF;
+    while 0 < turns {
+        turns -= 1;
+        let mut four: u64 = 4;
+        let mut length: u64 = 0;
+        if !read_number(&mut four, 4, &mut length) {
+            return;
+        }
+        run_script(length);
+    }
+}

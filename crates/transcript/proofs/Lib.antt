@@ -1,0 +1,5 @@
+pub mod StoreLaws
+pub mod Weights
+pub mod SaidLaws
+pub mod StateLaws
+pub mod EntryLaws
