@@ -1,0 +1,131 @@
+-- Calls whose records stand in lent words: what a call over the records that are read answers and leaves is what the definitions say of the words.
+-- Assumes nothing.
+use Prim.Native.Nat.{ℕ, zero, suc, _+_, _≤_, _<_}
+use native.Mathlib.Omega.{arith}
+use mathlib.Core.Path.{_≡_, refl, sym, ap, _∙_, subst}
+use mathlib.Core.List.{List, [], _∷_, _++_, map}
+use mathlib.Core.Option.{Option, none, some}
+use mathlib.Core.Bool.{Bool, true, false, _||_}
+use mathlib.Core.Logic.{_⊎_, inl, inr}
+use lib.Dec.{T, ltb}
+use lib.ListN.{length, drop, getD, set, length-map}
+use lib.Seq.{sets, sets-eq, drop-at}
+use borrow.Author.Tests.{lt-ltb, le-ltb, ltb-true, ltb-false}
+use Rattle.reg_matrix.specs.Refusals.{shortBuffer}
+use Rattle.reg_matrix.proofs.Places.{from-zero, count-length}
+use Rattle.reg_matrix.specs.Lists.{count}
+use Rattle.job.specs.Model.{Job}
+use Rattle.job.specs.Layout.{JobBuffers, headerOf}
+use Rattle.job.specs.declared.JobHeader.{JobHeader}
+use Rattle.allocator.specs.declared.Assignment.{Assignment}
+use Rattle.allocator.specs.declared.Assignment.the-variants.{Assigned, Unassigned, Dead}
+use Rattle.allocator.specs.declared.CandidateReg.{CandidateReg}
+use Rattle.allocator.specs.State.{State, assignment, isLeftOver, flag, heldBy, recordOf, records}
+use Rattle.allocator.specs.Layout.{StateBuffers, stageLimits}
+use Rattle.allocator.specs.Calls.{Call, running, answerOf, after}
+use Rattle.allocator.specs.Reached.{Reached}
+use Rattle.allocator.specs.Run.{run}
+use Rattle.allocator.proofs.Good.{good-reached, reached-after}
+use Rattle.context.specs.Standing.{JobStands}
+use Rattle.context.specs.Running.{endingNumber}
+use Rattle.calls.specs.Calling as calling
+use Rattle.calls.specs.Calling.{sizesOf, refusalNumber, StateStands}
+use Rattle.records.specs.Words.{recordWord, recordsIn, PlainRecord, AllPlain}
+use Rattle.pezhkadu.specs.Words.{headerIn}
+use Rattle.pezhkadu.specs.Calling.{Called, RunCalled, runShort}
+
+pub not-both : false ≡ true → ⊥
+not-both q = subst (λ (b : Bool). T (elim b as (λ x. Bool) [ true ↦ false | false ↦ true ])) q tt
+
+-- ---- on a state that calls reach every record is read again as it was
+
+plain-one :
+    (l f : Bool) (h : Option CandidateReg) → ((c : CandidateReg) → h ≡ some c → PlainRecord (Assigned f (c .reg) (c .«preference_weight»)))
+    → PlainRecord (assignment l f h)
+plain-one true f h p = tt
+plain-one false f none p = tt
+plain-one false f (some c) p = p c refl
+
+plain-at : (j : Job) (s : State) → Reached j s → (v : ℕ) → PlainRecord (recordOf s v)
+unfolding recordOf
+plain-at j s r v = plain-one (isLeftOver s v) (flag s v) (heldBy s v) (λ c e. good-reached j s r .agrees .holder v c e .1 .plain)
+
+past-end : {A : Type 0} (xs : List A) (i : ℕ) (d : A) → length xs ≤ i → getD xs i d ≡ d
+past-end [] i d h = refl
+past-end (x ∷ xs) zero d h = absurd (omega arith)
+past-end (x ∷ xs) (suc i) d h = past-end xs i d (omega arith)
+
+pub plain-records : (j : Job) (s : State) → Reached j s → AllPlain (records s)
+unfolding records
+plain-records j s r v = go (ltb v 512) refl
+  where
+    size : length (map (recordOf s) (count 0 512)) ≡ 512
+    size = length-map (count 0 512) (recordOf s) ∙ count-length 0 512
+
+    go : (b : Bool) → ltb v 512 ≡ b → PlainRecord (getD (map (recordOf s) (count 0 512)) v Dead)
+    go true e = subst PlainRecord (sym (from-zero (recordOf s) Dead 512 v (ltb-true v 512 e))) (plain-at j s r v)
+    go false e = subst PlainRecord (sym (past-end (map (recordOf s) (count 0 512)) v Dead (omega (arith, size, ltb-false v 512 e)))) tt
+
+-- ---- one call
+
+-- what is stored in front leaves the tail
+pub tail-kept : (rs : List Assignment) (ws : List ℕ) → length rs ≡ 512 → 512 ≤ length ws → drop 512 (sets ws 0 (map recordWord rs)) ≡ drop 512 ws
+tail-kept rs ws n l =
+    let size : length (map recordWord rs) ≡ 512 = length-map rs recordWord ∙ n in
+    let size′ : 0 + length (map recordWord rs) ≡ 512 = omega (arith, size) in
+    ap (drop 512) (sets-eq (map recordWord rs) ws 0 (omega (arith, size)))
+    ∙ drop-at (map recordWord rs) (drop (0 + length (map recordWord rs)) ws) 512 size
+    ∙ ap (λ (k : ℕ). drop k ws) size′
+
+module _ (own : Bool) (head : List ℕ) (B : JobBuffers) (c : Call) (S : StateBuffers) (ws : List ℕ) where
+  -- firmware's own words are short
+  pub own-short : own ≡ true → Called own head B c S ws S ws 15
+  own-short e =
+      record {
+        short = λ s. refl;
+        unchanged = λ n. (refl, refl);
+        behind = refl;
+        reached = λ f. absurd (not-both (sym f ∙ e));
+      }
+
+  module _ (rs rs′ : List Assignment) (S′ : StateBuffers) (m : ℕ) (long : own ≡ false) (read : rs ≡ recordsIn ws) (d : calling.Called (headerIn head) B c S rs S′ rs′ m) where
+    short-first : (own || shortBuffer stageLimits (sizesOf B S)) ≡ true → m ≡ 15
+    short-first e = d .short (sym (ap (λ (b : Bool). b || shortBuffer stageLimits (sizesOf B S)) long) ∙ e)
+
+    stands : (j : Job) (s : State) (t : StateBuffers) → StateStands j s t S (recordsIn ws) → StateStands j s t S rs
+    stands j s t st = subst (λ (x : List Assignment). StateStands j s t S x) (sym read) st
+
+    -- refused, nothing is stored
+    pub call-refused : (m ≡ 0 → ⊥) → Called own head B c S ws S′ ws m
+    call-refused z =
+        let u = d .unchanged z in
+        record {
+          short = short-first;
+          unchanged = λ n. (u .slices, refl);
+          behind = refl;
+          reached =
+              λ f j s t reach job h st.
+              let a = d .reached j s t reach job h (stands j s t st) in
+              (a .0, record { stands = a .1 .stands; records-are = sym read ∙ sym (u .records-too) ∙ a .1 .records-are });
+        }
+
+    -- carried out, the records are stored
+    pub call-done :
+        m ≡ 0
+        → (ws′ : List ℕ)
+        → ws′ ≡ sets ws 0 (map recordWord rs′)
+        → (AllPlain rs′ → 512 ≤ length ws → recordsIn ws′ ≡ rs′)
+        → length rs′ ≡ 512
+        → 512 ≤ length ws
+        → Called own head B c S ws S′ ws′ 0
+    call-done z ws′ e back n l =
+        record {
+          short = λ s. sym z ∙ short-first s;
+          unchanged = λ k. absurd (k refl);
+          behind = ap (drop 512) e ∙ tail-kept rs′ ws n l;
+          reached =
+              λ f j s t reach job h st.
+              let a = d .reached j s t reach job h (stands j s t st) in
+              let plain = subst AllPlain (sym (a .1 .records-are)) (plain-records j (after j s c) (reached-after j s reach c)) in
+              (sym z ∙ a .0, record { stands = a .1 .stands; records-are = back plain l ∙ a .1 .records-are });
+        }

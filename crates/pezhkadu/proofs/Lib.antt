@@ -1,0 +1,10 @@
+pub mod HeaderLaws
+pub mod NumberLaws
+pub mod CallLaws
+pub mod RunLaws
+pub mod LoadLaws
+pub mod DirectLaws
+pub mod ReadLaws
+pub mod RefusalNumbers
+pub mod LoadedLaws
+pub mod SheetLaws

@@ -1,0 +1,61 @@
+use borrow.Author.Needs.{needs}
+use Rattle.pezhkadu.proofs.ReadLaws.{line-header-short, line-records-short, line-answer-short, line-next-short, line-called}
+use Rattle.pezhkadu.proofs.reading.pezhkadu_sheet_line.Statement.{statement}
+use Rattle.pezhkadu.proofs.reading.pezhkadu_sheet_line.Tie as tie
+
+returns : tie.Need-returns
+returns c = line-header-short _ _ _ _ _ _ _ (c .if1 .taken)
+
+returns-2 : tie.Need-returns-2
+returns-2 c = line-records-short _ _ _ _ _ _ _ (c .before .if1 .left) (c .if2 .taken)
+
+returns-3 : tie.Need-returns-3
+returns-3 c = line-answer-short _ _ _ _ _ _ _ (c .before .before .if1 .left) (c .before .if2 .left) (c .if3 .taken)
+
+returns-4 : tie.Need-returns-4
+returns-4 c = line-next-short _ _ _ _ _ _ _ (c .before .before .before .if1 .left) (c .before .before .if2 .left) (c .before .if3 .left) (c .if4 .taken)
+
+listing-of-requires : tie.Need-listing-of-requires
+listing-of-requires c κs = search needs
+
+number-requires : tie.Need-number-requires
+number-requires c κs = search needs
+
+at-requires : tie.Need-at-requires
+at-requires c κs = search needs
+
+record-of-requires : tie.Need-record-of-requires
+record-of-requires c κs = search needs
+
+next-requires : tie.Need-next-requires
+next-requires c κs = search needs
+
+store-next-requires : tie.Need-store-next-requires
+store-next-requires c κs = search needs
+
+same-length : tie.Need-same-length
+same-length c = search needs
+
+same-length-2 : tie.Need-same-length-2
+same-length-2 c = search needs
+
+returns-5 : tie.Need-returns-5
+returns-5 c = line-called _ _ _ _ _ _ _ (c .before .before .before .before .before .before .before .before .before .before .before .before .before .before .before .if1 .left) (c .before .before .before .before .before .before .before .before .before .before .before .before .before .before .if2 .left) (c .before .before .before .before .before .before .before .before .before .before .before .before .before .if3 .left) (c .before .before .before .before .before .before .before .before .before .before .before .before .if4 .left) _ _ _ _ _ _ _ _ (c .before .before .before .before .before .before .before .before .before .before .before .listing-of .ensures) (c .before .before .before .before .before .before .before .before .before .before .number .ensures .0) (c .before .before .before .before .before .before .before .before .before .at .ensures) (c .before .before .before .before .before .before .before .before .record-of .ensures) (c .before .before .before .before .before .before .next .ensures) (c .before .before .store-next .ensures)
+
+pub pezhkadu-sheet-line-spec : {M : Type 1} → statement M
+pezhkadu-sheet-line-spec =
+    tie.close
+    (tie.spec
+    returns
+    returns-2
+    returns-3
+    returns-4
+    listing-of-requires
+    number-requires
+    at-requires
+    record-of-requires
+    next-requires
+    store-next-requires
+    same-length
+    same-length-2
+    returns-5)

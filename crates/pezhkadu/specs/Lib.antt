@@ -1,0 +1,4 @@
+pub mod Words
+pub mod Calling
+pub mod Loading
+pub mod Reading

@@ -1,0 +1,166 @@
+// Direct placements and evictions over a header and records that stand in lent words.
+ghost use mathlib.Core.Path.{_≡_};
+ghost use lib.Ieee.{binary32, ofBits};
+ghost use Rattle.context.specs.Running.{lentJob, lentState};
+ghost use Rattle.allocator.specs.Calls.{placing};
+ghost use Rattle.calls.specs.Calling.{sizesOf};
+ghost use Rattle.pezhkadu.specs.Calling.{Called, assignShort, EvictCalled};
+use crate::header::header_of;
+use crate::numbers::cut8;
+use crate::numbers::cut16;
+use crate::numbers::cut32;
+use lent::put;
+use records::read;
+use records::store;
+
+// Places the virtual register v in the register, with the weight of these binary32 bits. The answer is 0, or the number of the refusal, and then
+// nothing is changed: 15 where a slice is short, 8 where there is no such number or register or v may not have it, 9 where the weight is infinite, no
+// number or has the sign, 13 where v is not unassigned, 14 where the check reports anything.
+#[no_mangle]
+pub extern "C" fn pezhkadu_assign(
+    header: &[u64],
+    records: &mut [u64],
+    v: u64,
+    reg: u64,
+    weight: u64,
+    maps: &[u64],
+    class_starts: &[u16],
+    class_regs: &[u8],
+    uses: &[u64],
+    classes: &[u8],
+    sets: &[u16],
+    spills: &[f32],
+    sizes: &[u32],
+    hint_starts: &[u16],
+    hint_regs: &[u8],
+    hint_weights: &[f32],
+    segment_starts: &[u16],
+    froms: &[u32],
+    tos: &[u32],
+    values: &[u16],
+    ends: &mut [u64],
+    rests: &mut [u64],
+    queue: &mut [u64],
+    last: &mut [u8],
+) -> u64
+    ensures { λ r. ⌜ Called (assignShort (now (header .entry)) (now (records .entry))) (now (header .entry)) (lentJob (now (maps .entry)) (now («class_starts» .entry)) (now («class_regs» .entry)) (now (uses .entry)) (now (classes .entry)) (now (sets .entry)) (now (spills .entry)) (now (sizes .entry)) (now («hint_starts» .entry)) (now («hint_regs» .entry)) (now («hint_weights» .entry)) (now («segment_starts» .entry)) (now (froms .entry)) (now (tos .entry)) (now (values .entry))) (placing (sizesOf (lentJob (now (maps .entry)) (now («class_starts» .entry)) (now («class_regs» .entry)) (now (uses .entry)) (now (classes .entry)) (now (sets .entry)) (now (spills .entry)) (now (sizes .entry)) (now («hint_starts» .entry)) (now («hint_regs» .entry)) (now («hint_weights» .entry)) (now («segment_starts» .entry)) (now (froms .entry)) (now (tos .entry)) (now (values .entry))) (lentState (now (ends .entry)) (now (rests .entry)) (now (queue .entry)) (now (last .entry)))) v reg (ofBits binary32 weight)) (lentState (now (ends .entry)) (now (rests .entry)) (now (queue .entry)) (now (last .entry))) (now (records .entry)) (lentState (now (ends .exit)) (now (rests .exit)) (now (queue .exit)) (now (last .exit))) (now (records .exit)) r ⌝ }
+{
+    if header.len() < 8 {
+        return 15;
+    }
+    if records.len() < 512 {
+        return 15;
+    }
+    let mut refusal = 0;
+    let known = header_of(header);
+    let before = read(records);
+    let after = calls::direct::assign(
+        before,
+        known,
+        cut16(v),
+        cut8(reg),
+        cut32(weight),
+        maps,
+        class_starts,
+        class_regs,
+        uses,
+        classes,
+        sets,
+        spills,
+        sizes,
+        hint_starts,
+        hint_regs,
+        hint_weights,
+        segment_starts,
+        froms,
+        tos,
+        values,
+        ends,
+        rests,
+        queue,
+        last,
+        &mut refusal,
+    );
+    if refusal != 0 {
+        return refusal;
+    }
+    store(after, records);
+    0
+}
+
+// Evicts the virtual register v, and stores the register that it held in the answer's first word. The answer is 0, or the number of the refusal, and
+// then nothing is changed: 15 where a slice is short, 8 where there is no such number, 13 where v holds no register.
+#[no_mangle]
+pub extern "C" fn pezhkadu_evict(
+    header: &[u64],
+    records: &mut [u64],
+    v: u64,
+    maps: &[u64],
+    class_starts: &[u16],
+    class_regs: &[u8],
+    uses: &[u64],
+    classes: &[u8],
+    sets: &[u16],
+    spills: &[f32],
+    sizes: &[u32],
+    hint_starts: &[u16],
+    hint_regs: &[u8],
+    hint_weights: &[f32],
+    segment_starts: &[u16],
+    froms: &[u32],
+    tos: &[u32],
+    values: &[u16],
+    ends: &mut [u64],
+    rests: &mut [u64],
+    queue: &mut [u64],
+    last: &[u8],
+    answer: &mut [u64],
+) -> u64
+    ensures { λ r. ⌜ EvictCalled (now (header .entry)) (lentJob (now (maps .entry)) (now («class_starts» .entry)) (now («class_regs» .entry)) (now (uses .entry)) (now (classes .entry)) (now (sets .entry)) (now (spills .entry)) (now (sizes .entry)) (now («hint_starts» .entry)) (now («hint_regs» .entry)) (now («hint_weights» .entry)) (now («segment_starts» .entry)) (now (froms .entry)) (now (tos .entry)) (now (values .entry))) v (lentState (now (ends .entry)) (now (rests .entry)) (now (queue .entry)) (now (last .entry))) (now (records .entry)) (now (answer .entry)) (lentState (now (ends .exit)) (now (rests .exit)) (now (queue .exit)) (now (last .entry))) (now (records .exit)) (now (answer .exit)) r ⌝ }
+{
+    if header.len() < 8 {
+        return 15;
+    }
+    if records.len() < 512 {
+        return 15;
+    }
+    if answer.len() < 1 {
+        return 15;
+    }
+    let mut refusal = 0;
+    let mut taken = 0;
+    let known = header_of(header);
+    let before = read(records);
+    let after = calls::direct::evict(
+        before,
+        known,
+        cut16(v),
+        maps,
+        class_starts,
+        class_regs,
+        uses,
+        classes,
+        sets,
+        spills,
+        sizes,
+        hint_starts,
+        hint_regs,
+        hint_weights,
+        segment_starts,
+        froms,
+        tos,
+        values,
+        ends,
+        rests,
+        queue,
+        last,
+        &mut refusal,
+        &mut taken,
+    );
+    if refusal != 0 {
+        return refusal;
+    }
+    store(after, records);
+    put(answer, 0, taken);
+    0
+}
