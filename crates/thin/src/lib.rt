@@ -4,6 +4,7 @@
 pub mod assign;
 pub mod check;
 mod covered;
+pub mod lists;
 mod taking;
 
 // Segments taken apart: the fields of the first `count` ones, and whether there were more than have room.
