@@ -1,16 +1,28 @@
-// Questions, which change nothing: checks of segments on a register, and whether a unit is spare.
+// Questions, which change nothing: checks of segments on a register, and whether a unit is spare. A check's segments are structs in an array that
+// goes by value.
+ghost use Prim.Native.Nat.{_≤_};
 use crate::input::read_number;
 use crate::output::print;
-use lent::part16;
-use lent::part32;
-use lent::put16;
-use lent::put32;
 use matrix::Cursor;
 use matrix::Start;
 use matrix::Step;
-use matrix::check::check_interference;
 use matrix::unit_free::is_unit_free;
+use reg_matrix::ValueSegment;
+use thin::lists::check_list;
+use thin::lists::next_in_list;
 use transcript::answers;
+
+// One segment that was read, or that the script ended inside it.
+enum SegmentRead {
+    Is(ValueSegment),
+    Cut,
+}
+
+// The segments of a check: whether they were all there, and the list, which is empty behind them.
+struct SegmentsRead {
+    whole: bool,
+    list: [ValueSegment; 255],
+}
 
 fn narrow32(x: u64) -> u32 {
     if x <= 0xFFFF_FFFF {
@@ -28,66 +40,69 @@ fn narrow8(x: u64) -> u8 {
     if x <= 0xFF { x as u8 } else { 0xFF }
 }
 
-// Reads one segment and stores its fields at place i.
-fn read_segment(
-    left: &mut u64,
-    i: usize,
-    froms: &mut [u32],
-    tos: &mut [u32],
-    values: &mut [u16],
-) -> bool {
+// Reads one segment.
+fn read_segment(left: &mut u64) -> SegmentRead {
     let mut from: u64 = 0;
     let mut to: u64 = 0;
     let mut value: u64 = 0;
     if !read_number(left, 4, &mut from) {
-        return false;
+        return SegmentRead::Cut;
     }
     if !read_number(left, 4, &mut to) {
-        return false;
+        return SegmentRead::Cut;
     }
     if !read_number(left, 2, &mut value) {
-        return false;
+        return SegmentRead::Cut;
     }
-    put32(froms, i, narrow32(from));
-    put32(tos, i, narrow32(to));
-    put16(values, i, narrow16(value));
-    true
+    SegmentRead::Is(ValueSegment {
+        from: narrow32(from),
+        to: narrow32(to),
+        value: narrow16(value),
+    })
 }
 
-// Reads n segments, at most 255. Answers whether they were all there.
-fn read_segments(
-    left: &mut u64,
-    n: usize,
-    froms: &mut [u32],
-    tos: &mut [u32],
-    values: &mut [u16],
-) -> bool {
+// Reads n segments.
+fn read_segments(left: &mut u64, n: usize) -> SegmentsRead
+    requires { ⌜ n ≤ 255 ⌝ }
+{
+    let none = ValueSegment {
+        from: 0,
+        to: 0,
+        value: 0,
+    };
+    let mut list = [none; 255];
     let mut i = 0;
     while i < n {
-        if !read_segment(left, i, froms, tos, values) {
-            return false;
-        }
+        let SegmentRead::Is(segment) = read_segment(left) else {
+            return SegmentsRead {
+                whole: false,
+                list: list,
+            };
+        };
+        list[i] = segment;
         i += 1;
     }
-    true
+    SegmentsRead {
+        whole: true,
+        list: list,
+    }
 }
 
-// Prints the reports from this position on.
+// Prints the reports on the first n segments from this position on.
 fn print_reports(
+    list: [ValueSegment; 255],
+    n: usize,
     start: Cursor,
     ends: &[u64],
     rests: &[u64],
     uses: &[u64],
-    froms: &[u32],
-    tos: &[u32],
-    values: &[u16],
     line: &mut [u8],
 ) {
     let mut here = start;
     let mut turns: u64 = 0xFFFF_FFFF_FFFF_FFFF;
     while 0 < turns {
         turns -= 1;
-        let Step::Report(report, after) = here.next(ends, rests, uses, froms, tos, values) else {
+        let Step::Report(report, after) = next_in_list(list, n, here, ends, rests, uses) else {
             return;
         };
         let length = answers::report_line(line, report);
@@ -96,8 +111,10 @@ fn print_reports(
     }
 }
 
-// A check of these segments on the register, in the full or the short form.
+// A check of the first n segments on the register, in the full or the short form.
 fn check(
+    list: [ValueSegment; 255],
+    n: usize,
     reg: u64,
     count: u8,
     full: bool,
@@ -105,12 +122,11 @@ fn check(
     ends: &[u64],
     rests: &[u64],
     uses: &[u64],
-    froms: &[u32],
-    tos: &[u32],
-    values: &[u16],
     line: &mut [u8],
 ) {
-    match check_interference(
+    match check_list(
+        list,
+        n,
         maps,
         count as usize,
         reg as usize,
@@ -118,18 +134,15 @@ fn check(
         ends,
         rests,
         uses,
-        froms,
-        tos,
-        values,
     ) {
-        Start::Refused(n) => {
-            let length = answers::refused_line(line, n as u64);
+        Start::Refused(refusal) => {
+            let length = answers::refused_line(line, refusal as u64);
             print(line, length);
         }
         Start::Checking(c) => {
             let length = answers::check_line(line);
             print(line, length);
-            print_reports(c, ends, rests, uses, froms, tos, values, line);
+            print_reports(list, n, c, ends, rests, uses, line);
         }
     }
 }
@@ -147,26 +160,13 @@ pub fn ask_check(
     uses: &[u64],
     line: &mut [u8],
 ) -> bool {
-    let mut froms = [0u32; 255];
-    let mut tos = [0u32; 255];
-    let mut values = [0u16; 255];
     let n = narrow8(segments) as usize;
-    if !read_segments(left, n, &mut froms, &mut tos, &mut values) {
+    let read = read_segments(left, n);
+    if !read.whole {
         return false;
     }
-    check(
-        reg,
-        count,
-        full,
-        maps,
-        ends,
-        rests,
-        uses,
-        part32(&froms, 0, n),
-        part32(&tos, 0, n),
-        part16(&values, 0, n),
-        line,
-    );
+    let list = read.list;
+    check(list, n, reg, count, full, maps, ends, rests, uses, line);
     true
 }
 

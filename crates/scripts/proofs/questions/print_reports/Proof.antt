@@ -1,15 +1,14 @@
 use borrow.Author.Needs.{needs}
-use native.Mathlib.Omega.{arith}
 use mathlib.Core.Path.{_≡_, refl, _∙_}
 use lib.ListN.{length}
 use Rattle.scripts.proofs.questions.print_reports.Statement.{statement}
 use Rattle.scripts.proofs.questions.print_reports.Tie as tie
 
 abbrev Inv-loop : tie.InvT-loop
-Inv-loop ends rests uses froms tos values line₀ here₀ turns₀ line here turns = length line ≡ length line₀
+Inv-loop list n ends rests uses line₀ here₀ turns₀ line here turns = length line ≡ length line₀
 
 abbrev μ-loop : tie.MeasureT-loop
-μ-loop ends rests uses froms tos values line₀ here₀ turns₀ line here turns = turns
+μ-loop list n ends rests uses line₀ here₀ turns₀ line here turns = turns
 
 loop-holds : tie.Need-loop-holds Inv-loop μ-loop
 loop-holds c = refl
@@ -17,8 +16,8 @@ loop-holds c = refl
 sub-turns : tie.Need-sub-turns Inv-loop μ-loop
 sub-turns c = search needs
 
-next-requires : tie.Need-next-requires Inv-loop μ-loop
-next-requires c κs = search needs
+next-in-list-requires : tie.Need-next-in-list-requires Inv-loop μ-loop
+next-in-list-requires c κs = search needs
 
 enum-known-report : tie.Need-enum-known-report Inv-loop μ-loop
 enum-known-report c = search needs
@@ -58,7 +57,7 @@ print-reports-spec =
     μ-loop
     loop-holds
     sub-turns
-    next-requires
+    next-in-list-requires
     enum-known-report
     enum-told
     same-length

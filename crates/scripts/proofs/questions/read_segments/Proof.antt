@@ -1,34 +1,34 @@
 use borrow.Author.Needs.{needs}
 use Prim.Native.Nat.{_-_}
-use native.Mathlib.Omega.{arith}
-use mathlib.Core.Path.{_≡_, refl, _∙_}
-use lib.ListN.{length}
 use Rattle.scripts.proofs.questions.read_segments.Statement.{statement}
 use Rattle.scripts.proofs.questions.read_segments.Tie as tie
 
 abbrev Inv-loop : tie.InvT-loop
-Inv-loop left₀ n froms₀ tos₀ values₀ i₀ left froms tos values i = (length froms ≡ length froms₀) × (length tos ≡ length tos₀) × (length values ≡ length values₀)
+Inv-loop left₀ n list₀ i₀ left list i = Unit {0}
 
 abbrev μ-loop : tie.MeasureT-loop
-μ-loop left₀ n froms₀ tos₀ values₀ i₀ left froms tos values i = n - i
+μ-loop left₀ n list₀ i₀ left list i = n - i
 
 loop-holds : tie.Need-loop-holds Inv-loop μ-loop
-loop-holds c = (refl, refl, refl)
+loop-holds c = tt
 
 read-segment-requires : tie.Need-read-segment-requires Inv-loop μ-loop
 read-segment-requires c κs = search needs
 
-same-length : tie.Need-same-length Inv-loop μ-loop
-same-length c = search needs
+enum-known-segment : tie.Need-enum-known-segment Inv-loop μ-loop
+enum-known-segment c = search needs
 
-same-length-2 : tie.Need-same-length-2 Inv-loop μ-loop
-same-length-2 c = search needs
-
-same-length-3 : tie.Need-same-length-3 Inv-loop μ-loop
-same-length-3 c = search needs
+enum-told : tie.Need-enum-told Inv-loop μ-loop
+enum-told c = search needs
 
 returns : tie.Need-returns Inv-loop μ-loop
 returns c = search needs
+
+mul-list : tie.Need-mul-list Inv-loop μ-loop
+mul-list c = search needs
+
+array-set-from-list : tie.Need-array-set-from-list Inv-loop μ-loop
+array-set-from-list c = search needs
 
 add-i : tie.Need-add-i Inv-loop μ-loop
 add-i c = search needs
@@ -37,16 +37,7 @@ loop-less : tie.Need-loop-less Inv-loop μ-loop
 loop-less c = search needs
 
 loop-again : tie.Need-loop-again Inv-loop μ-loop
-loop-again c = (c .before .before .before .before .before .before .before .read-segment .kept .1 .1 .0 ∙ c .before .before .before .before .before .before .before .before .before .before .before .before .before .loop .inv .0, c .before .before .before .before .before .before .before .read-segment .kept .1 .1 .1 .0 ∙ c .before .before .before .before .before .before .before .before .before .before .before .before .before .loop .inv .1, c .before .before .before .before .before .before .before .read-segment .kept .1 .1 .1 .1 .0 ∙ c .before .before .before .before .before .before .before .before .before .before .before .before .before .loop .inv .2)
-
-same-length-4 : tie.Need-same-length-4 Inv-loop μ-loop
-same-length-4 c = search needs
-
-same-length-5 : tie.Need-same-length-5 Inv-loop μ-loop
-same-length-5 c = search needs
-
-same-length-6 : tie.Need-same-length-6 Inv-loop μ-loop
-same-length-6 c = search needs
+loop-again c = tt
 
 returns-2 : tie.Need-returns-2 Inv-loop μ-loop
 returns-2 c = search needs
@@ -59,14 +50,12 @@ read-segments-spec =
     μ-loop
     loop-holds
     read-segment-requires
-    same-length
-    same-length-2
-    same-length-3
+    enum-known-segment
+    enum-told
     returns
+    mul-list
+    array-set-from-list
     add-i
     loop-less
     loop-again
-    same-length-4
-    same-length-5
-    same-length-6
     returns-2)
