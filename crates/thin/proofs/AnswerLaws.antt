@@ -17,7 +17,7 @@ use lib.Seq.{take-all}
 use borrow.Author.Tests.{ltb-false}
 use Rattle.reg_matrix.specs.declared.ValueSegment.{ValueSegment}
 use Rattle.thin.specs.declared.Fields.{Fields}
-use Rattle.thin.specs.Apart.{maxSegments, noFields, takenApart, fromsIn, tosIn, valuesIn, fromsOf, tosOf, valuesOf}
+use Rattle.thin.specs.Apart.{maxSegments, takenApart, fromsIn, tosIn, valuesIn, fromsOf, tosOf, valuesOf}
 use Rattle.matrix.specs.declared.Start.{Start}
 use Rattle.thin.specs.Answers.{unlessLong, checkAnswer, AssignAnswer, EvictAnswer}
 use Rattle.matrix.proofs.Starts.{segments-back}
@@ -69,7 +69,7 @@ unfolding entered
 first-start ends units full [] = refl
 first-start ends units full (y ∷ ys) = refl
 
-module _ (ys : List ValueSegment) (f : Fields) (e : f ≡ takenApart noFields ys) where
+module _ (ys : List ValueSegment) (f : Fields) (e : f ≡ takenApart ys) where
   froms-told : fromsIn f ≡ fromsOf (take maxSegments ys)
   froms-told = ap fromsIn e ∙ froms-apart ys
 

@@ -1,156 +1,112 @@
--- Taking segments apart, and what stands in the three lists of fields afterwards: the fields of the first 512 segments. Assumes nothing.
-use Prim.Native.Nat.{ℕ, suc, _+_, _-_, _≤_, _<_}
+-- Taking segments apart: one segment more, and what stands in the three lists of fields afterwards, the fields of the first 512 segments. Assumes
+-- nothing.
+use Prim.Native.Nat.{ℕ, suc, _+_, _-_, _≤_, _<_, min}
 use native.Mathlib.Omega.{arith}
 use native.Mathlib.Numerals.{add-one}
-use mathlib.Core.Path.{_≡_, refl, sym, _∙_, ap, subst}
-use mathlib.Core.List.{List, [], _∷_, _++_, map, append-nil}
+use native.Mathlib.Nat.{min-comm, min-eq-left, min-eq-right, min-le-right}
+use mathlib.Core.Path.{_≡_, refl, sym, _∙_, ap}
+use mathlib.Core.List.{List, [], _∷_, _++_, map, map-append}
 use mathlib.Core.Bool.{Bool, true, false}
 use lib.Dec.{ltb}
-use lib.ListN.{length, take, set, length-set, length-replicate}
-use lib.Seq.{take-nil, take-suc-set, append-snoc}
-use borrow.Author.Tests.{ltb-true, ltb-false, lt-ltb, le-ltb}
+use lib.ListN.{length, take, set, getD, replicate, length-append, length-map, length-take}
+use lib.Seq.{take-suc, take-all, take-append-seam, set-at, append-snoc, length-take-le}
+use borrow.Author.Tests.{ltb-true, ltb-false}
 use Rattle.reg_matrix.specs.declared.ValueSegment.{ValueSegment}
 use Rattle.lent.specs.Parts.{part}
 use Rattle.lent.proofs.Laws.{inside}
 use Rattle.thin.specs.declared.Fields.{Fields}
-use Rattle.thin.specs.Apart.{maxSegments, noFields, added, takenApart, fromsIn, tosIn, valuesIn, fromsOf, tosOf, valuesOf}
+use Rattle.thin.specs.Apart.{maxSegments, padded, fieldsOf, takenApart, fromsIn, tosIn, valuesIn, fromsOf, tosOf, valuesOf}
 
--- ---- one segment more
+-- ---- as many as there are, at most
 
-module _ (f : Fields) (s : ValueSegment) where
-  abbrev stored : Fields
-  stored = record {
-    count = f .count + 1;
-    long = f .long;
-    froms = set (f .froms) (f .count) (s .from);
-    tos = set (f .tos) (f .count) (s .to);
-    values = set (f .values) (f .count) (s .value);
-  }
-
-  abbrev passed : Fields
-  passed = record { count = f .count; long = true; froms = f .froms; tos = f .tos; values = f .values }
-
-  room : f .count < 512 → added f s ≡ stored
-  unfolding added
-  room h = rw (lt-ltb _ _ h)
-
-  full : 512 ≤ f .count → added f s ≡ passed
-  unfolding added
-  full h = rw (le-ltb _ _ h)
-
-  -- the count stays within the room
-  bounded : f .count ≤ 512 → added f s .count ≤ 512
-  bounded h = go (ltb (f .count) 512) refl
+module _ {A : Type 0} (l : List A) where
+  pub take-least : (n : ℕ) → take (min n (length l)) l ≡ take n l
+  take-least n = go (ltb n (length l)) refl
     where
-      go : (t : Bool) → ltb (f .count) 512 ≡ t → added f s .count ≤ 512
-      go true e = subst (λ (d : Fields). d .count ≤ 512) (sym (room (ltb-true _ _ e))) (let z : f .count < 512 = ltb-true _ _ e in omega arith)
-      go false e = subst (λ (d : Fields). d .count ≤ 512) (sym (full (ltb-false _ _ e))) h
-
-pub counted : (ss : List ValueSegment) (f : Fields) → f .count ≤ 512 → takenApart f ss .count ≤ 512
-unfolding takenApart
-counted [] f h = h
-counted (s ∷ ss) f h = counted ss (added f s) (bounded f s h)
-
--- ---- whether there was room for all
-
-stays-long : (ss : List ValueSegment) (f : Fields) → f .long ≡ true → takenApart f ss .long ≡ true
-unfolding takenApart
-stays-long [] f e = e
-stays-long (s ∷ ss) f e = stays-long ss (added f s) (go (ltb (f .count) 512) refl)
-  where
-    go : (t : Bool) → ltb (f .count) 512 ≡ t → added f s .long ≡ true
-    go true q = ap (λ (d : Fields). d .long) (room f s (ltb-true _ _ q)) ∙ e
-    go false q = ap (λ (d : Fields). d .long) (full f s (ltb-false _ _ q))
-
-longed : (ss : List ValueSegment) (f : Fields) → f .count ≤ 512 → f .long ≡ false → takenApart f ss .long ≡ ltb 512 (f .count + length ss)
-unfolding takenApart
-longed [] f h e = e ∙ sym (le-ltb 512 (f .count + 0) (omega arith))
-longed (s ∷ ss) f h e = go (ltb (f .count) 512) refl (longed ss (added f s) (bounded f s h))
-  where
-    go : (t : Bool) → ltb (f .count) 512 ≡ t → (added f s .long ≡ false → takenApart (added f s) ss .long ≡ ltb 512 (added f s .count + length ss))
-        → takenApart (added f s) ss .long ≡ ltb 512 (f .count + suc (length ss))
-    go true q ih =
-        let more : f .count + 1 + length ss ≡ f .count + suc (length ss) = omega arith in
-        ih (ap (λ (d : Fields). d .long) (room f s (ltb-true _ _ q)) ∙ e)
-        ∙ ap (λ (d : Fields). ltb 512 (d .count + length ss)) (room f s (ltb-true _ _ q)) ∙ ap (ltb 512) more
-    go false q ih =
-        let z : 512 ≤ f .count = ltb-false _ _ q in
-        stays-long ss (added f s) (ap (λ (d : Fields). d .long) (full f s z)) ∙ sym (lt-ltb 512 (f .count + suc (length ss)) (omega arith))
-
--- ---- one of the three lists
-
-module _ (at : Fields → List ℕ) (g : ValueSegment → ℕ) (puts : (f : Fields) (s : ValueSegment) → at (stored f s) ≡ set (at f) (f .count) (g s))
-    (keeps : (f : Fields) (s : ValueSegment) → at (passed f s) ≡ at f) where
-  long-enough : (f : Fields) (s : ValueSegment) → length (at f) ≡ 512 → length (at (added f s)) ≡ 512
-  long-enough f s l = go (ltb (f .count) 512) refl
-    where
-      go : (t : Bool) → ltb (f .count) 512 ≡ t → length (at (added f s)) ≡ 512
-      go true e = ap (λ (d : Fields). length (at d)) (room f s (ltb-true _ _ e)) ∙ ap length (puts f s) ∙ length-set (at f) (f .count) (g s) ∙ l
-      go false e = ap (λ (d : Fields). length (at d)) (full f s (ltb-false _ _ e)) ∙ ap length (keeps f s) ∙ l
-
-  abbrev So-far : Fields → List ValueSegment → List ℕ
-  So-far f ss = take (f .count) (at f) ++ map g (take (512 - f .count) ss)
-
-  one-more : (f : Fields) (s : ValueSegment) (ss : List ValueSegment) → f .count ≤ 512 → length (at f) ≡ 512 → So-far (added f s) ss ≡ So-far f (s
-      ∷ ss)
-  one-more f s ss h l = go (ltb (f .count) 512) refl
-    where
-      first : f .count < 512 → take (512 - f .count) (s ∷ ss) ≡ s ∷ take (512 - (f .count + 1)) ss
-      first z = let q : 512 - f .count ≡ suc (512 - (f .count + 1)) = omega arith in rw q
-
-      go : (t : Bool) → ltb (f .count) 512 ≡ t → So-far (added f s) ss ≡ So-far f (s ∷ ss)
-      go true e =
-          let z : f .count < 512 = ltb-true _ _ e in
-          ap (λ (d : Fields). So-far d ss) (room f s z)
-          ∙ ap (λ (l : List ℕ). take (f .count + 1) l ++ map g (take (512 - (f .count + 1)) ss)) (puts f s)
-          ∙ ap (λ (l : List ℕ). l ++ map g (take (512 - (f .count + 1)) ss)) (taking z)
-          ∙ append-snoc (take (f .count) (at f)) (g s) (map g (take (512 - (f .count + 1)) ss))
-          ∙ ap (λ (l : List ValueSegment). take (f .count) (at f) ++ map g l) (sym (first z))
-        where
-          taking : f .count < 512 → take (f .count + 1) (set (at f) (f .count) (g s)) ≡ take (f .count) (at f) ++ (g s ∷ [])
-          taking z = let q : f .count < length (at f) = omega (arith, l) in rw (add-one, take-suc-set (at f) (f .count) (g s) q)
+      go : (t : Bool) → ltb n (length l) ≡ t → take (min n (length l)) l ≡ take n l
+      go true e = let h : n ≤ length l = (let z : n < length l = ltb-true _ _ e in omega arith) in ap (λ (k : ℕ). take k l) (min-eq-left h)
       go false e =
-          let z : f .count ≡ 512 = (let y : 512 ≤ f .count = ltb-false _ _ e in omega arith) in
-          ap (λ (d : Fields). So-far d ss) (full f s (ltb-false _ _ e))
-          ∙ ap (λ (l : List ℕ). take (f .count) l ++ map g (take (512 - f .count) ss)) (keeps f s)
-          ∙ ap (λ (k : ℕ). take (f .count) (at f) ++ map g (take (512 - k) ss)) z
-          ∙ ap (λ (k : ℕ). take (f .count) (at f) ++ map g (take (512 - k) (s ∷ ss))) (sym z)
+          let h : length l ≤ n = ltb-false _ _ e in
+          ap (λ (k : ℕ). take k l) (min-eq-right h) ∙ take-all (length l) l (omega arith) ∙ sym (take-all n l h)
 
-  lengthy : (ss : List ValueSegment) (f : Fields) → length (at f) ≡ 512 → length (at (takenApart f ss)) ≡ 512
-  unfolding takenApart
-  lengthy [] f l = l
-  lengthy (s ∷ ss) f l = lengthy ss (added f s) (long-enough f s l)
+-- ---- padded lists
 
-  held : (ss : List ValueSegment) (f : Fields) → f .count ≤ 512 → length (at f) ≡ 512
-      → take (takenApart f ss .count) (at (takenApart f ss)) ≡ So-far f ss
-  unfolding takenApart
-  held [] f h l = sym (ap (λ (z : List ValueSegment). take (f .count) (at f) ++ map g z) (take-nil (512 - f .count))
-      ∙ append-nil (take (f .count) (at f)))
-  held (s ∷ ss) f h l = held ss (added f s) (bounded f s h) (long-enough f s l) ∙ one-more f s ss h l
+-- what was padded is the first part
+padded-part : (xs : List ℕ) → length xs ≤ maxSegments → part 0 (length xs) (padded xs) ≡ xs
+unfolding padded
+padded-part xs h =
+    let all : length xs - 0 ≡ length xs = omega arith in
+    inside 0 (length xs) (padded xs) (omega arith) (simp length-append (omega arith))
+    ∙ ap (λ (k : ℕ). take k (padded xs)) all ∙ take-append-seam xs (replicate (maxSegments - length xs) 0)
 
-  parted : length (at noFields) ≡ 512 → (ss : List ValueSegment) → part 0 (takenApart noFields ss .count)
-      (at (takenApart noFields ss)) ≡ map g (take 512 ss)
-  unfolding noFields
-  parted l ss =
-      let all : takenApart noFields ss .count - 0 ≡ takenApart noFields ss .count = omega arith in
-      inside 0 _ _ (omega arith)
-      (let c : takenApart noFields ss .count ≤ 512 = counted ss noFields (omega arith) in omega (arith, lengthy ss noFields l))
-      ∙ ap (λ (k : ℕ). take k (at (takenApart noFields ss))) all ∙ held ss noFields (omega arith) l
+abbrev pub noSegment : ValueSegment
+noSegment = record { from = 0; to = 0; value = 0 }
+
+-- one segment more
+module _ (g : ValueSegment → ℕ) (l : List ValueSegment) (i : ℕ) (inside : i < length l) (room : length l ≡ maxSegments) where
+  abbrev before : List ℕ
+  before = map g (take i l)
+
+  before-long : length before ≡ i
+  before-long = length-map (take i l) g ∙ length-take-le i l (omega arith)
+
+  after : map g (take (i + 1) l) ≡ before ++ (g (getD l i noSegment) ∷ [])
+  after = rw (add-one, take-suc l i noSegment inside, map-append g (take i l) (getD l i noSegment ∷ []))
+
+  pub stored : set (padded before) i (g (getD l i noSegment)) ≡ padded (map g (take (i + 1) l))
+  unfolding padded
+  stored =
+      let left : maxSegments - length before ≡ suc (maxSegments - (i + 1)) = omega (arith, before-long) in
+      let long : length (map g (take (i + 1) l)) ≡ i + 1 = length-map (take (i + 1) l) g ∙ length-take-le (i + 1) l (omega arith) in
+      ap (λ (k : ℕ). set (before ++ replicate k 0) i (g (getD l i noSegment))) left
+      ∙ set-at before 0 (replicate (maxSegments - (i + 1)) 0) (g (getD l i noSegment)) i before-long
+      ∙ sym (append-snoc before (g (getD l i noSegment)) (replicate (maxSegments - (i + 1)) 0))
+      ∙ ap (λ (xs : List ℕ). xs ++ replicate (maxSegments - (i + 1)) 0) (sym after)
+      ∙ ap (λ (k : ℕ). map g (take (i + 1) l) ++ replicate (maxSegments - k) 0) (sym long)
+
+-- all of the first n
+module _ (l : List ValueSegment) (count n : ℕ) (room : length l ≡ maxSegments) (least : n ≡ min count maxSegments) where
+  pub all-seen : take n l ≡ take count l
+  all-seen = ap (λ (k : ℕ). take k l) (least ∙ ap (min count) (sym room)) ∙ take-least l count
+
+  pub all-stored : (long : Bool) {fs ts vs : List ℕ} → fs ≡ padded (fromsOf (take n l)) → ts ≡ padded (tosOf (take n l))
+      → vs ≡ padded (valuesOf (take n l)) → record { count = n; long = long; froms = fs; tos = ts; values = vs } ≡ fieldsOf long (take count l)
+  unfolding fieldsOf
+  all-stored long ef et ev =
+      let counted : n ≡ length (take n l) = sym (length-take-le n l (omega (arith, min-le-right count maxSegments))) in
+      (λ k. record { count = counted k; long = long; froms = ef k; tos = et k; values = ev k }) ∙ ap (fieldsOf long) all-seen
+
+-- the segments that have room were copied into a list, and the list is taken apart
+pub gathered : (l ys : List ValueSegment) (m : ℕ) → length l ≡ maxSegments → m ≡ min (length ys) maxSegments → take m l ≡ take m ys → {f : Fields}
+    → f ≡ fieldsOf (ltb maxSegments (length ys)) (take (length ys) l) → f ≡ takenApart ys
+unfolding takenApart
+gathered l ys m room least e p =
+    p ∙ ap (fieldsOf (ltb maxSegments (length ys)))
+    (sym (all-seen l (length ys) m room least) ∙ e ∙ ap (λ (k : ℕ). take k ys) (least ∙ min-comm (length ys) maxSegments) ∙ take-least ys maxSegments)
 
 -- ---- all that is had of the segments
 
-pub froms-apart : (ss : List ValueSegment) → fromsIn (takenApart noFields ss) ≡ fromsOf (take maxSegments ss)
-unfolding noFields
-froms-apart = parted (λ f. f .froms) (λ s. s .from) (λ f s. refl) (λ f s. refl) (length-replicate {A = ℕ} 512 0)
+module _ (ss : List ValueSegment) where
+  seen : length (take maxSegments ss) ≤ maxSegments
+  seen = omega (arith, length-take maxSegments ss)
 
-pub tos-apart : (ss : List ValueSegment) → tosIn (takenApart noFields ss) ≡ tosOf (take maxSegments ss)
-unfolding noFields
-tos-apart = parted (λ f. f .tos) (λ s. s .to) (λ f s. refl) (λ f s. refl) (length-replicate {A = ℕ} 512 0)
+  parted : (g : ValueSegment → ℕ) → part 0 (length (take maxSegments ss)) (padded (map g (take maxSegments ss))) ≡ map g (take maxSegments ss)
+  parted g =
+      let long : length (map g (take maxSegments ss)) ≡ length (take maxSegments ss) = length-map (take maxSegments ss) g in
+      ap (λ (k : ℕ). part 0 k (padded (map g (take maxSegments ss)))) (sym long) ∙ padded-part (map g (take maxSegments ss)) (omega (arith, seen))
 
-pub values-apart : (ss : List ValueSegment) → valuesIn (takenApart noFields ss) ≡ valuesOf (take maxSegments ss)
-unfolding noFields
-values-apart = parted (λ f. f .values) (λ s. s .value) (λ f s. refl) (λ f s. refl) (length-replicate {A = ℕ} 512 0)
+  pub froms-apart : fromsIn (takenApart ss) ≡ fromsOf (take maxSegments ss)
+  unfolding takenApart fieldsOf
+  froms-apart = parted (λ s. s .from)
 
-pub long-apart : (ss : List ValueSegment) → takenApart noFields ss .long ≡ ltb maxSegments (length ss)
-unfolding noFields
-long-apart ss = let none : 0 + length ss ≡ length ss = omega arith in longed ss noFields (omega arith) refl ∙ ap (ltb 512) none
+  pub tos-apart : tosIn (takenApart ss) ≡ tosOf (take maxSegments ss)
+  unfolding takenApart fieldsOf
+  tos-apart = parted (λ s. s .to)
+
+  pub values-apart : valuesIn (takenApart ss) ≡ valuesOf (take maxSegments ss)
+  unfolding takenApart fieldsOf
+  values-apart = parted (λ s. s .value)
+
+  pub long-apart : takenApart ss .long ≡ ltb maxSegments (length ss)
+  unfolding takenApart fieldsOf
+  long-apart = refl

@@ -25,13 +25,10 @@ use denote.Triple.Clauses.{ensured, lasts}
 use denote.Triple.Spec.{tripleOf}
 use Rattle.reg_matrix.specs.declared.ValueSegment.{ValueSegment}
 use Rattle.thin.specs.declared.Fields.{Fields}
-use Rattle.thin.specs.Apart.{noFields, takenApart}
-use Rattle.reg_matrix.proofs.ValueSegment as S
+use Rattle.thin.specs.Apart.{takenApart}
+use Rattle.thin.proofs.Arrays.{R}
 use Rattle.thin.proofs.Fields as T
 use Rattle.thin.proofs.taking.take_apart as apart
-
-abbrev pub R : RattleType
-R = S.the-row
 
 abbrev pub F : RattleType
 F = T.the-row
@@ -62,16 +59,16 @@ module _ {M : Type 1} (𝓤 : URA M) (H : Heap 𝓤) (A : Atoms 𝓤) (mem : Mem
     abbrev Ensured : Fields → SProp 𝓤
     Ensured f = ensured 𝓤 H A apart.ended (apart.clauses 𝓤 H A mem run) (κ, tt) (segments, tt) tt f
 
-    said-apart : (f : Fields) → ent 𝓤 (Ensured f) (fact 𝓤 (f ≡ takenApart noFields ys))
-    said-apart f = exE 𝓤 _ (λ ws. snd∗ 𝓤 (sem 𝓤 H A (lasts apart.ended (κ, tt) (segments, tt) ws)) (fact 𝓤 (f ≡ takenApart noFields ys)))
+    said-apart : (f : Fields) → ent 𝓤 (Ensured f) (fact 𝓤 (f ≡ takenApart ys))
+    said-apart f = exE 𝓤 _ (λ ws. snd∗ 𝓤 (sem 𝓤 H A (lasts apart.ended (κ, tt) (segments, tt) ws)) (fact 𝓤 (f ≡ takenApart ys)))
 
     -- once it has returned v: v is that of the segments' fields, and the token is back
     module _ {K : Type 0} {W : Given 𝓤 H A} {Γ : List (Item 𝓤)} {G : Goal 𝓤 H} where
       pub answered : K → Soaks G → (v : Val)
-          → ((f : Fields) → f ≡ takenApart noFields ys → Is F f (v ∷ []) → Seq K W (‵ (F .own f (v ∷ [])) ∷ (‵ (flft κ q) ⊛ ‵ ftrue) ∷ Γ) G)
+          → ((f : Fields) → f ≡ takenApart ys → Is F f (v ∷ []) → Seq K W (‵ (F .own f (v ∷ [])) ∷ (‵ (flft κ q) ⊛ ‵ ftrue) ∷ Γ) G)
           → Seq K W (raw (TakeApart .post to-apart v) ∷ Γ) G
       answered t z v k =
           use1 W (later (some (λ (f : Fields). ((‵ (flft κ q) ⊛ ‵ ftrue) ⊛ ‵ (F .own f (v ∷ []))) ⊛ raw (Ensured f)))) (id⊢ 𝓤 _) $ await t z $
           pick t (λ f.
-          split t $ move t (1 ∷ []) $ use1 W (raw (fact 𝓤 (f ≡ takenApart noFields ys))) (said-apart f) $ heard t (f ≡ takenApart noFields ys) (λ e.
+          split t $ move t (1 ∷ []) $ use1 W (raw (fact 𝓤 (f ≡ takenApart ys))) (said-apart f) $ heard t (f ≡ takenApart ys) (λ e.
           split t $ move t (1 ∷ []) $ peeks t F (Is F) (shows 𝓤 H A F) f (v ∷ []) (λ is. k f e is)))

@@ -47,12 +47,13 @@ use Rattle.reg_matrix.specs.declared.ValueSegment.{ValueSegment}
 use Rattle.matrix.specs.declared.Moved.{Moved}
 use Rattle.matrix.specs.Moves.{Words, words}
 use Rattle.thin.specs.declared.Fields.{Fields}
-use Rattle.thin.specs.Apart.{noFields, takenApart}
+use Rattle.thin.specs.Apart.{takenApart}
 use Rattle.matrix.proofs.Moved as E
 use Rattle.matrix.proofs.Moved.Laws as E′
 use Rattle.thin.proofs.Fields as T
 use Rattle.thin.proofs.Fields.Laws as T′
-use Rattle.thin.proofs.Calling.{R, F, segmentSlice, TakeApart, segments, Own, to-apart, goes-apart, answered}
+use Rattle.thin.proofs.Arrays.{R}
+use Rattle.thin.proofs.Calling.{F, segmentSlice, TakeApart, segments, Own, to-apart, goes-apart, answered}
 use Rattle.thin.proofs.taking.take_apart.Symbol.{name as #take-apart}
 use Rattle.thin.proofs.covered.assign_fields as covered
 use Rattle.thin.proofs.assign.assign as fun
@@ -91,7 +92,7 @@ stayed = (
 -- the covered function's name, what it says and what is said here
 module _ (key : Name) (Heard : Fields → ℕ → ℕ → List ℕ → Words → Words → Moved → Type 0) (Said : List ValueSegment → ℕ → ℕ → List ℕ → Words → Words
     → Moved → Type 0)
-    (told : (ys : List ValueSegment) (f : Fields) → f ≡ takenApart noFields ys → (v m : ℕ) (uses : List ℕ) (w w′ : Words) (r : Moved)
+    (told : (ys : List ValueSegment) (f : Fields) → f ≡ takenApart ys → (v m : ℕ) (uses : List ℕ) (w w′ : Words) (r : Moved)
     → Heard f v m uses w w′ r → Said ys v m uses w w′ r) where
   abbrev body : Body
   body = seq (call #take-apart (copy (place 1 []) ∷ []) (place 7 [])) (seq (pointer 8 2) (seq (counted 9 8 2) (seq (pointer 10 3)

@@ -1,9 +1,9 @@
 -- Segments taken apart into three lists of numbers: what a slice of segment structs holds, and what the code keeps of it. Assumes nothing.
-use Prim.Native.Nat.{ℕ, _+_}
-use mathlib.Core.List.{List, [], _∷_, map}
-use mathlib.Core.Bool.{true, false, cond}
+use Prim.Native.Nat.{ℕ, _-_}
+use mathlib.Core.List.{List, _++_, map}
+use mathlib.Core.Bool.{Bool}
 use lib.Dec.{ltb}
-use lib.ListN.{set, replicate}
+use lib.ListN.{length, take, replicate}
 use Rattle.reg_matrix.specs.declared.ValueSegment.{ValueSegment}
 use Rattle.lent.specs.Parts.{part}
 use Rattle.thin.specs.declared.Fields.{Fields}
@@ -36,22 +36,14 @@ valuesIn f = part 0 (f .count) (f .values)
 
 -- ---- taking segments apart
 
-unfoldable pub noFields : Fields
-noFields = record { count = 0; long = false; froms = replicate 512 0; tos = replicate 512 0; values = replicate 512 0 }
+-- with zeros in the places behind
+unfoldable pub padded : List ℕ → List ℕ
+padded xs = xs ++ replicate (maxSegments - length xs) 0
 
--- one segment more, where there is room
-unfoldable pub added : Fields → ValueSegment → Fields
-added f s =
-    cond (ltb (f .count) maxSegments)
-    (record {
-      count = f .count + 1;
-      long = f .long;
-      froms = set (f .froms) (f .count) (s .from);
-      tos = set (f .tos) (f .count) (s .to);
-      values = set (f .values) (f .count) (s .value);
-    })
-    (record { count = f .count; long = true; froms = f .froms; tos = f .tos; values = f .values })
+-- segments that have room, and whether there were more
+unfoldable pub fieldsOf : Bool → List ValueSegment → Fields
+fieldsOf long ss =
+    record { count = length ss; long = long; froms = padded (fromsOf ss); tos = padded (tosOf ss); values = padded (valuesOf ss) }
 
-unfoldable pub takenApart : Fields → List ValueSegment → Fields
-takenApart f [] = f
-takenApart f (s ∷ ss) = takenApart (added f s) ss
+unfoldable pub takenApart : List ValueSegment → Fields
+takenApart ss = fieldsOf (ltb maxSegments (length ss)) (take maxSegments ss)

@@ -1,45 +1,48 @@
-// Taking segments apart (specs/Apart.antt).
+// Taking segments apart (specs/Apart.antt). The loop over the lent structs, which is proved by a walk of its MIR by hand, only copies them into an
+// array; their fields are taken from there, in a function that the borrow checker covers. So no array is copied for each segment.
 ghost use mathlib.Core.Path.{_≡_};
-ghost use Rattle.thin.specs.Apart.{noFields, added, takenApart};
+ghost use Prim.Native.Nat.{min};
+ghost use lib.Dec.{ltb};
+ghost use lib.ListN.{take};
+ghost use Rattle.thin.specs.Apart.{fieldsOf, takenApart};
 use crate::Fields;
 use reg_matrix::ValueSegment;
 
 // No segments.
-fn no_fields() -> Fields
-    ensures { λ r. ⌜ r ≡ noFields ⌝ }
-{
-    Fields {
-        count: 0,
-        long: false,
-        froms: [0; 512],
-        tos: [0; 512],
-        values: [0; 512],
-    }
+fn no_segments() -> [ValueSegment; 512] {
+    [ValueSegment {
+        from: 0,
+        to: 0,
+        value: 0,
+    }; 512]
 }
 
-// One segment more, where there is room.
-fn add(f: Fields, s: ValueSegment) -> Fields
-    ensures { λ r. ⌜ r ≡ added f s ⌝ }
+// How many of this many segments have room.
+fn with_room(count: usize) -> usize
+    ensures { λ r. ⌜ r ≡ min count 512 ⌝ }
 {
-    let n = f.count;
-    let mut froms = f.froms;
-    let mut tos = f.tos;
-    let mut values = f.values;
-    if n < 512 {
-        froms[n] = s.from;
-        tos[n] = s.to;
-        values[n] = s.value;
-        return Fields {
-            count: n + 1,
-            long: f.long,
-            froms: froms,
-            tos: tos,
-            values: values,
-        };
+    if count < 512 { count } else { 512 }
+}
+
+// The fields of the first `count` segments of a list, or of all where there are more than have room.
+fn fields_of(list: [ValueSegment; 512], count: usize) -> Fields
+    ensures { λ r. ⌜ r ≡ fieldsOf (ltb 512 count) (take count list) ⌝ }
+{
+    let n = with_room(count);
+    let mut froms = [0u32; 512];
+    let mut tos = [0u32; 512];
+    let mut values = [0u16; 512];
+    let mut i = 0;
+    while i < n {
+        let s = list[i];
+        froms[i] = s.from;
+        tos[i] = s.to;
+        values[i] = s.value;
+        i += 1;
     }
     Fields {
         count: n,
-        long: true,
+        long: 512 < count,
         froms: froms,
         tos: tos,
         values: values,
@@ -48,13 +51,14 @@ fn add(f: Fields, s: ValueSegment) -> Fields
 
 // The fields of all segments, one after another.
 pub fn take_apart(segments: &[ValueSegment]) -> Fields
-    ensures { λ r. ⌜ r ≡ takenApart noFields (now (segments .entry)) ⌝ }
+    ensures { λ r. ⌜ r ≡ takenApart (now (segments .entry)) ⌝ }
 {
-    let mut f = no_fields();
+    let mut list = no_segments();
+    let n = with_room(segments.len());
     let mut i = 0;
-    while i < segments.len() {
-        f = add(f, segments[i]);
+    while i < n {
+        list[i] = segments[i];
         i += 1;
     }
-    f
+    fields_of(list, segments.len())
 }

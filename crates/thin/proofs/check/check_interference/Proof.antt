@@ -52,7 +52,8 @@ use Rattle.matrix.proofs.Start as E
 use Rattle.matrix.proofs.Start.Laws as E′
 use Rattle.thin.proofs.Fields as T
 use Rattle.thin.proofs.Fields.Laws as T′
-use Rattle.thin.proofs.Calling.{R, F, segmentSlice, TakeApart, segments, Own, to-apart, goes-apart, answered}
+use Rattle.thin.proofs.Arrays.{R}
+use Rattle.thin.proofs.Calling.{F, segmentSlice, TakeApart, segments, Own, to-apart, goes-apart, answered}
 use Rattle.thin.proofs.AnswerLaws.{check-told}
 use Rattle.thin.proofs.taking.take_apart.Symbol as apart-def
 use Rattle.thin.proofs.taking.take_apart.Symbol.{name as #take-apart}

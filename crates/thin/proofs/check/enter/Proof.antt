@@ -50,7 +50,8 @@ use Rattle.matrix.proofs.Cursor as D
 use Rattle.matrix.proofs.Cursor.Laws as D′
 use Rattle.thin.proofs.Fields as T
 use Rattle.thin.proofs.Fields.Laws as T′
-use Rattle.thin.proofs.Calling.{R, F, segmentSlice, TakeApart, segments, Own, to-apart, goes-apart, answered}
+use Rattle.thin.proofs.Arrays.{R}
+use Rattle.thin.proofs.Calling.{F, segmentSlice, TakeApart, segments, Own, to-apart, goes-apart, answered}
 use Rattle.thin.proofs.AnswerLaws.{enter-told}
 use Rattle.thin.proofs.taking.take_apart.Symbol as apart-def
 use Rattle.thin.proofs.taking.take_apart.Symbol.{name as #take-apart}

@@ -52,8 +52,9 @@ use Rattle.matrix.proofs.Cursor as D
 use Rattle.matrix.proofs.Cursor.Laws as D′
 use Rattle.matrix.proofs.Step as E
 use Rattle.matrix.proofs.Step.Laws as E′
-use Rattle.thin.proofs.Calling.{R, segments, Own}
-use Rattle.thin.proofs.Lending.{L, listTy, list-vals, listVal, list-tells, Listed, list-typed, listRef, frontRef, front-long, front-room, front-seen, lends-front, front-back}
+use Rattle.thin.proofs.Arrays.{R, L, listTy, list-vals, listVal, list-tells, list-typed}
+use Rattle.thin.proofs.Calling.{segments, Own}
+use Rattle.thin.proofs.Lending.{listRef, frontRef, front-long, front-room, front-seen, lends-front, front-back}
 use Rattle.thin.proofs.AnswerLaws.{answered-at}
 use Rattle.thin.proofs.check.next as callee
 use Rattle.thin.proofs.check.next.Symbol as callee-def
@@ -73,9 +74,9 @@ function = record {
   lifetimes = 3;
   outlives = [];
   params = 6;
-  locals = local E′.mir valueLocal ∷ local listTy valueLocal ∷ local (tyInt w64) valueLocal ∷ local D′.mir valueLocal ∷ local (words 0) valueLocal
+  locals = local E′.mir valueLocal ∷ local (listTy 255) valueLocal ∷ local (tyInt w64) valueLocal ∷ local D′.mir valueLocal ∷ local (words 0) valueLocal
       ∷ local (words 1) valueLocal ∷ local (words 2) valueLocal
-      ∷ local listTy memorySlot ∷ local listRef valueLocal ∷ local frontRef valueLocal ∷ [];
+      ∷ local (listTy 255) memorySlot ∷ local listRef valueLocal ∷ local frontRef valueLocal ∷ [];
   body = code.Mir.t-1;
 }
 
@@ -167,20 +168,20 @@ module _ {M : Type 1} (𝓤 : URA M) (H : Heap 𝓤) (A : Atoms 𝓤) (W : Given
     said : (r : Step) → ent 𝓤 (Ensures r) (fact 𝓤 (Heard r))
     said r = exE 𝓤 _ (λ ws. snd∗ 𝓤 (sem 𝓤 H A (lasts callee.ended (α ∷ [], κs) (segments 𝓤 H A mem run (α ∷ []) fullShare l 0 γ front, xs) ws)) (fact 𝓤 (Heard r)))
 
-  module _ (𝓣 : Tables 𝓤 H) (known : Triple 𝓤 (𝓣 .C #callee) (Callee 𝓤 H A mem run)) (gl : Listed list) (gn : n < 2 ^ 64)
+  module _ (𝓣 : Tables 𝓤 H) (known : Triple 𝓤 (𝓣 .C #callee) (Callee 𝓤 H A mem run)) (gl : Holds (hasTy (listTy 255) lv) × WT lv) (gn : n < 2 ^ 64)
       (l₀ l₁ l₂ l₃ l₄ l₅ l₆ l₇ l₈ l₉ : ℕ) where
     abbrev En : Env 𝓤 H
-    En = (E′.mir, l₀) ∷ (listTy, l₁) ∷ (tyInt w64, l₂) ∷ (D′.mir, l₃) ∷ (words 0, l₄) ∷ (words 1, l₅) ∷ (words 2, l₆) ∷ (listTy, l₇) ∷ (listRef, l₈)
+    En = (E′.mir, l₀) ∷ (listTy 255, l₁) ∷ (tyInt w64, l₂) ∷ (D′.mir, l₃) ∷ (words 0, l₄) ∷ (words 1, l₅) ∷ (words 2, l₆) ∷ (listTy 255, l₇) ∷ (listRef, l₈)
         ∷ (frontRef, l₉) ∷ []
 
     -- what there is once the parameters are passed
     abbrev Entered : List (Item 𝓤)
-    Entered = ‵ (froom frontRef l₉ 0) ∷ ‵ (fdies frontRef l₉) ∷ ‵ (froom listRef l₈ 0) ∷ ‵ (fdies listRef l₈) ∷ ‵ (froom listTy l₇ 0)
-        ∷ ‵ (fdies listTy l₇)
+    Entered = ‵ (froom frontRef l₉ 0) ∷ ‵ (fdies frontRef l₉) ∷ ‵ (froom listRef l₈ 0) ∷ ‵ (fdies listRef l₈) ∷ ‵ (froom (listTy 255) l₇ 0)
+        ∷ ‵ (fdies (listTy 255) l₇)
         ∷ ‵ (fat fullShare (words 2) l₆ 0 (sv uses)) ∷ ‵ (fdies (words 2) l₆) ∷ ‵ (fat fullShare (words 1) l₅ 0 (sv rests)) ∷ ‵ (fdies (words 1) l₅)
         ∷ ‵ (fat fullShare (words 0) l₄ 0 (sv ends)) ∷ ‵ (fdies (words 0) l₄) ∷ ‵ (fat fullShare D′.mir l₃ 0 cv) ∷ ‵ (fdies D′.mir l₃)
-        ∷ ‵ (fat fullShare (tyInt w64) l₂ 0 (vint w64 n)) ∷ ‵ (fdies (tyInt w64) l₂) ∷ ‵ (fat fullShare listTy l₁ 0 lv) ∷ ‵ (fdies listTy l₁)
-        ∷ ‵ (froom E′.mir l₀ 0) ∷ ‵ (fdies E′.mir l₀) ∷ raw Tokens ∷ ‵ (fsep (L .own list (lv ∷ [])) (fsep (usize .own n (vint w64 n ∷ [])) Rest)) ∷ []
+        ∷ ‵ (fat fullShare (tyInt w64) l₂ 0 (vint w64 n)) ∷ ‵ (fdies (tyInt w64) l₂) ∷ ‵ (fat fullShare (listTy 255) l₁ 0 lv) ∷ ‵ (fdies (listTy 255) l₁)
+        ∷ ‵ (froom E′.mir l₀ 0) ∷ ‵ (fdies E′.mir l₀) ∷ raw Tokens ∷ ‵ (fsep (L 255 .own list (lv ∷ [])) (fsep (usize .own n (vint w64 n ∷ [])) Rest)) ∷ []
 
     begins : ent 𝓤 (⋆ 𝓤 H A Entered) (Wp 𝓤 H (𝓣 .C) (𝓣 .Λ) En code.Mir.t-1 (atReturn 𝓤 H En Post))
     begins =
@@ -213,12 +214,12 @@ module _ {M : Type 1} (𝓤 : URA M) (H : Heap 𝓤) (A : Atoms 𝓤) (W : Given
         move ! (12 ∷ 13 ∷ []) $ free1 ! $ move ! (10 ∷ 11 ∷ []) $ free1 ! $ move ! (8 ∷ 9 ∷ []) $ free1 ! $ move ! (1 ∷ 7 ∷ []) $ free1 ! $
         move ! (4 ∷ 5 ∷ []) $ free1 ! $ move ! (2 ∷ 3 ∷ []) $ free1 ! $ free0 ! $ by ! (exits r w (told r e)))))))
 
-  walk : (𝓣 : Tables 𝓤 H) → Triple 𝓤 (𝓣 .C #callee) (Callee 𝓤 H A mem run) → Listed list → n < 2 ^ 64
+  walk : (𝓣 : Tables 𝓤 H) → Triple 𝓤 (𝓣 .C #callee) (Callee 𝓤 H A mem run) → Holds (hasTy (listTy 255) lv) × WT lv → n < 2 ^ 64
       → Holds (hasTy D′.mir cv) × WT cv → Room u64 (length (now ends)) → Room u64 (length (now rests)) → Room u64 (length (now uses))
       → ent 𝓤 (onEntry 𝓤 H A fun.signature κs qs (list, (n, xs)) at) (WpFn 𝓤 H (𝓣 .C) (𝓣 .Λ) function (lv ∷ vint w64 n ∷ cv ∷ sv ends
       ∷ sv rests ∷ sv uses ∷ []) Post)
   walk 𝓣 known gl gn gc ge gr gu =
-      qed W (raw Tokens ∷ ‵ (fsep (L .own list (lv ∷ [])) (fsep (usize .own n (vint w64 n ∷ [])) Rest)) ∷ []) ∵
+      qed W (raw Tokens ∷ ‵ (fsep (L 255 .own list (lv ∷ [])) (fsep (usize .own n (vint w64 n ∷ [])) Rest)) ∷ []) ∵
       enter ! (𝓣 .C) (𝓣 .Λ) function (lv ∷ vint w64 n ∷ cv ∷ sv ends ∷ sv rests ∷ sv uses ∷ []) _ $
       alloc1 ! (λ l₀. alloc1 ! (λ l₁. alloc1 ! (λ l₂. alloc1 ! (λ l₃. alloc1 ! (λ l₄. alloc1 ! (λ l₅. alloc1 ! (λ l₆. alloc1 ! (λ l₇. alloc1 ! (λ l₈. alloc1 ! (λ l₉. alloc0 ! $ params1 ! $
       pass1 ! (init ! 16 refl gl) $ pass1 ! (init ! 14 refl (tt, record { fits = gn })) $ pass1 ! (init ! 12 refl gc) $
@@ -237,7 +238,7 @@ module _ {M : Type 1} (𝓤 : URA M) (H : Heap 𝓤) (A : Atoms 𝓤) (W : Given
         (uint-vals w64, (LL.vals D.the-type D′.the-laws, (slice-vals, (slice-vals, (slice-vals, tt))))),
       ))
       (λ κs. (
-        list-tells,
+        list-tells 255,
         (
           uint-tells w64,
           (
@@ -251,7 +252,7 @@ module _ {M : Type 1} (𝓤 : URA M) (H : Heap 𝓤) (A : Atoms 𝓤) (W : Given
       ))
       (λ κs qs bounds a g are. needs 𝓤 (a .1 .0 ≤ 255) _ (λ le.
       walk 𝓤 H A W mem run κs qs (a .0) (a .1 .0) (a .1 .1 .0) (a .1 .1 .1 .0) (a .1 .1 .1 .1 .0) (a .1 .1 .1 .1 .1 .0) (are .0 .1 .0 .1) le 𝓣 known
-      (list-typed 𝓤 H A W (a .0) (are .0)) (are .1 .0 .1)
+      (list-typed 255 𝓤 H A W (a .0) _ (are .0)) (are .1 .0 .1)
       (LL.lawful D.the-type D′.the-laws 𝓤 H A W .typed (a .1 .1 .0) _ (are .1 .1 .0) .0) (are .1 .1 .1 .0 .0 .1) (are .1 .1 .1 .1 .0 .0 .1)
       (are .1 .1 .1 .1 .1 .0 .0 .1)))
 
