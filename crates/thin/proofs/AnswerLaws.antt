@@ -142,12 +142,12 @@ module _ (ys : List ValueSegment) (f : Fields) (e : f ≡ takenApart ys) where
 
 -- ---- the three lists of fields are the segments again, so a check of them is one of the structs
 
-pub check-of-structs : (regs : List ℕ) (count reg : ℕ) (full : Bool) (ends rests uses : List ℕ) (ys : List ValueSegment)
-    → checkAnswer (ltb maxSegments (length ys)) regs count reg full ends rests uses (fromsOf ys) (tosOf ys) (valuesOf ys)
+pub check-of-structs : (long : Bool) (regs : List ℕ) (count reg : ℕ) (full : Bool) (ends rests uses : List ℕ) (ys : List ValueSegment)
+    → checkAnswer long regs count reg full ends rests uses (fromsOf ys) (tosOf ys) (valuesOf ys)
     ≡ startOf
-    (unlessLong (ltb maxSegments (length ys))
+    (unlessLong long
     (checkRefusal (length regs ∷ length uses ∷ length ends ∷ length rests ∷ length ys ∷ length ys ∷ length ys ∷ []) (take count regs) reg ys))
     (entered ends (fromsOf ys) (getD regs reg 0) full)
 unfolding checkAnswer
-check-of-structs regs count reg full ends rests uses ys =
+check-of-structs long regs count reg full ends rests uses ys =
     rw (segments-back ys, length-map ys (λ (s : ValueSegment). s .from), length-map ys (λ (s : ValueSegment). s .to), length-map ys (λ (s : ValueSegment). s .value))

@@ -66,15 +66,15 @@ module _ (g : ValueSegment → ℕ) (l : List ValueSegment) (i : ℕ) (inside : 
 
 -- all of the first n
 module _ (l : List ValueSegment) (count n : ℕ) (room : length l ≡ maxSegments) (least : n ≡ min count maxSegments) where
-  pub all-seen : take n l ≡ take count l
-  all-seen = ap (λ (k : ℕ). take k l) (least ∙ ap (min count) (sym room)) ∙ take-least l count
+  pub all-taken : take n l ≡ take count l
+  all-taken = ap (λ (k : ℕ). take k l) (least ∙ ap (min count) (sym room)) ∙ take-least l count
 
   pub all-stored : (long : Bool) {fs ts vs : List ℕ} → fs ≡ padded (fromsOf (take n l)) → ts ≡ padded (tosOf (take n l))
       → vs ≡ padded (valuesOf (take n l)) → record { count = n; long = long; froms = fs; tos = ts; values = vs } ≡ fieldsOf long (take count l)
   unfolding fieldsOf
   all-stored long ef et ev =
       let counted : n ≡ length (take n l) = sym (length-take-le n l (omega (arith, min-le-right count maxSegments))) in
-      (λ k. record { count = counted k; long = long; froms = ef k; tos = et k; values = ev k }) ∙ ap (fieldsOf long) all-seen
+      (λ k. record { count = counted k; long = long; froms = ef k; tos = et k; values = ev k }) ∙ ap (fieldsOf long) all-taken
 
 -- the segments that have room were copied into a list, and the list is taken apart
 pub gathered : (l ys : List ValueSegment) (m : ℕ) → length l ≡ maxSegments → m ≡ min (length ys) maxSegments → take m l ≡ take m ys → {f : Fields}
@@ -82,7 +82,7 @@ pub gathered : (l ys : List ValueSegment) (m : ℕ) → length l ≡ maxSegments
 unfolding takenApart
 gathered l ys m room least e p =
     p ∙ ap (fieldsOf (ltb maxSegments (length ys)))
-    (sym (all-seen l (length ys) m room least) ∙ e ∙ ap (λ (k : ℕ). take k ys) (least ∙ min-comm (length ys) maxSegments) ∙ take-least ys maxSegments)
+    (sym (all-taken l (length ys) m room least) ∙ e ∙ ap (λ (k : ℕ). take k ys) (least ∙ min-comm (length ys) maxSegments) ∙ take-least ys maxSegments)
 
 -- ---- all that is had of the segments
 
