@@ -25,7 +25,7 @@ int main(void)
         uint8_t line[PEZHKADU_LINE];
         uint64_t next[PEZHKADU_NEXT] = {0, PEZHKADU_NO_LINE};
         refused = pezhkadu_sheet_line(stage.header, PEZHKADU_HEADER, stage.records, PEZHKADU_RECORDS,
-                                      answer, PEZHKADU_ANSWER, position, stage.maps, PEZHKADU_MAPS,
+                                      answer, PEZHKADU_ANSWER, position, stage.job64, PEZHKADU_JOB64,
                                       stage.ends, PEZHKADU_ENTRIES, stage.rests, PEZHKADU_ENTRIES,
                                       line, PEZHKADU_LINE, next, PEZHKADU_NEXT);
         if (refused != 0)

@@ -21,14 +21,11 @@ extern "C" {
 /* How many numbers each slice must have. */
 #define PEZHKADU_HEADER 8
 #define PEZHKADU_RECORDS 512
-#define PEZHKADU_MAPS 64
-#define PEZHKADU_CLASS_STARTS 17
-#define PEZHKADU_CLASS_REGS 1024
-#define PEZHKADU_USES 512
-#define PEZHKADU_VIRT_REGS 512
-#define PEZHKADU_STARTS 513
-#define PEZHKADU_HINTS 1024
-#define PEZHKADU_SEGMENTS 512
+#define PEZHKADU_JOB64 576
+#define PEZHKADU_JOB32 1536
+#define PEZHKADU_JOB16 2067
+#define PEZHKADU_JOB8 2560
+#define PEZHKADU_WEIGHTS 1536
 #define PEZHKADU_ENTRIES 2560
 #define PEZHKADU_QUEUE 1024
 #define PEZHKADU_LAST 512
@@ -59,26 +56,20 @@ extern "C" {
 #define PEZHKADU_FIRST_LINE UINT64_C(0)
 #define PEZHKADU_NO_LINE UINT64_MAX
 
-/* The slices of one stage, each of the size that it needs: 77,424 bytes in all. */
+/* The slices of one stage, each of the size that it needs: 77,416 bytes in all. */
 struct pezhkadu_stage {
     uint64_t header[PEZHKADU_HEADER];
     uint64_t records[PEZHKADU_RECORDS];
-    /* the job: registers' maps of units, classes, fixed uses, then the virtual registers' fields, hints and segments */
-    uint64_t maps[PEZHKADU_MAPS];
-    uint64_t uses[PEZHKADU_USES];
-    uint16_t class_starts[PEZHKADU_CLASS_STARTS];
-    uint8_t class_regs[PEZHKADU_CLASS_REGS];
-    uint8_t classes[PEZHKADU_VIRT_REGS];
-    uint16_t sets[PEZHKADU_VIRT_REGS];
-    float spills[PEZHKADU_VIRT_REGS];
-    uint32_t sizes[PEZHKADU_VIRT_REGS];
-    uint16_t hint_starts[PEZHKADU_STARTS];
-    uint8_t hint_regs[PEZHKADU_HINTS];
-    float hint_weights[PEZHKADU_HINTS];
-    uint16_t segment_starts[PEZHKADU_STARTS];
-    uint32_t froms[PEZHKADU_SEGMENTS];
-    uint32_t tos[PEZHKADU_SEGMENTS];
-    uint16_t values[PEZHKADU_SEGMENTS];
+    /* the job, its numbers together by size: job64 has the registers' maps of units and, from 64, the fixed uses; job32
+     * the segments' froms and, from 512, tos, and from 1,024 the sizes; job16 where each class begins and, from 17, the
+     * sets, from 529 the segments' values, from 1,041 and 1,554 where each one's hints and segments begin; job8 the
+     * classes' registers and, from 1,024, each one's class, from 1,536 the hinted registers; weights the spill weights
+     * and, from 512, those of the hints */
+    uint64_t job64[PEZHKADU_JOB64];
+    uint32_t job32[PEZHKADU_JOB32];
+    uint16_t job16[PEZHKADU_JOB16];
+    uint8_t job8[PEZHKADU_JOB8];
+    float weights[PEZHKADU_WEIGHTS];
     /* what calls change beside the records: the table, the queue, the register last given to each set */
     uint64_t ends[PEZHKADU_ENTRIES];
     uint64_t rests[PEZHKADU_ENTRIES];
@@ -88,21 +79,13 @@ struct pezhkadu_stage {
 
 /* The slices of a job, of a state, as parameters and, of a stage's address, as arguments. */
 #define PEZHKADU_JOB_PARAMETERS(constant) \
-    constant uint64_t *maps, size_t maps_len, constant uint16_t *class_starts, size_t class_starts_len, \
-    constant uint8_t *class_regs, size_t class_regs_len, constant uint64_t *uses, size_t uses_len, \
-    constant uint8_t *classes, size_t classes_len, constant uint16_t *sets, size_t sets_len, \
-    constant float *spills, size_t spills_len, constant uint32_t *sizes, size_t sizes_len, \
-    constant uint16_t *hint_starts, size_t hint_starts_len, constant uint8_t *hint_regs, size_t hint_regs_len, \
-    constant float *hint_weights, size_t hint_weights_len, \
-    constant uint16_t *segment_starts, size_t segment_starts_len, constant uint32_t *froms, size_t froms_len, \
-    constant uint32_t *tos, size_t tos_len, constant uint16_t *values, size_t values_len
+    constant uint64_t *job64, size_t job64_len, constant uint32_t *job32, size_t job32_len, \
+    constant uint16_t *job16, size_t job16_len, constant uint8_t *job8, size_t job8_len, \
+    constant float *weights, size_t weights_len
 
 #define PEZHKADU_JOB(s) \
-    (s)->maps, PEZHKADU_MAPS, (s)->class_starts, PEZHKADU_CLASS_STARTS, (s)->class_regs, PEZHKADU_CLASS_REGS, \
-    (s)->uses, PEZHKADU_USES, (s)->classes, PEZHKADU_VIRT_REGS, (s)->sets, PEZHKADU_VIRT_REGS, \
-    (s)->spills, PEZHKADU_VIRT_REGS, (s)->sizes, PEZHKADU_VIRT_REGS, (s)->hint_starts, PEZHKADU_STARTS, \
-    (s)->hint_regs, PEZHKADU_HINTS, (s)->hint_weights, PEZHKADU_HINTS, (s)->segment_starts, PEZHKADU_STARTS, \
-    (s)->froms, PEZHKADU_SEGMENTS, (s)->tos, PEZHKADU_SEGMENTS, (s)->values, PEZHKADU_SEGMENTS
+    (s)->job64, PEZHKADU_JOB64, (s)->job32, PEZHKADU_JOB32, (s)->job16, PEZHKADU_JOB16, (s)->job8, PEZHKADU_JOB8, \
+    (s)->weights, PEZHKADU_WEIGHTS
 
 #define PEZHKADU_STATE(s) \
     (s)->ends, PEZHKADU_ENTRIES, (s)->rests, PEZHKADU_ENTRIES, (s)->queue, PEZHKADU_QUEUE, (s)->last, PEZHKADU_LAST
@@ -145,7 +128,7 @@ uint64_t pezhkadu_standing(const uint64_t *header, size_t header_len, const uint
  * the run answered. Refused with 15. */
 uint64_t pezhkadu_sheet_line(const uint64_t *header, size_t header_len, const uint64_t *records, size_t records_len,
                              const uint64_t *answer, size_t answer_len, uint64_t position,
-                             const uint64_t *maps, size_t maps_len, const uint64_t *ends, size_t ends_len,
+                             const uint64_t *job64, size_t job64_len, const uint64_t *ends, size_t ends_len,
                              const uint64_t *rests, size_t rests_len,
                              uint8_t *line, size_t line_len, uint64_t *next, size_t next_len);
 

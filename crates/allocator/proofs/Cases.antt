@@ -7,7 +7,7 @@ use mathlib.Core.List.{List, [], _∷_, _++_, map}
 use mathlib.Core.Bool.{Bool, true, false, _&&_}
 use lib.Dec.{T, eqb}
 use lib.Ieee.{binary32, ofBits, nan}
-use lib.ListN.{getD, set}
+use lib.ListN.{length, getD, set}
 use Rattle.reg_matrix.specs.Lists.{ascii, same, all, concatMap, count}
 use Rattle.reg_matrix.specs.Lines.{number, sp, line, refusedLine}
 use Rattle.reg_matrix.specs.declared.ValueSegment.{ValueSegment}
@@ -455,14 +455,14 @@ cases =
     -- 15: a placement, an eviction and a run with a buffer one short; each changes nothing, and longer buffers do
     record {
       job = "0B 01 0100000000000000 01 0100 0200 2C 0000803F 0A000000 0100 04000000140000000100 2C 00000040 05000000 0100 08000000100000000200";
-      calls = calls (placing (oneShort 0) 0 0 zeroWeight) ∷ calls (placing longer 0 0 zeroWeight) ∷ calls (evicting (oneShort 17) 0) ∷ calls (running (oneShort 18) 9) ∷ calls (evicting longer 0) ∷ calls (running longer 1) ∷ [];
+      calls = calls (placing (oneShort 0) 0 0 zeroWeight) ∷ calls (placing longer 0 0 zeroWeight) ∷ calls (evicting (oneShort 7) 0) ∷ calls (running (oneShort 8) 9) ∷ calls (evicting longer 0) ∷ calls (running longer 1) ∷ [];
       shows = "refused 15" ∷ "s 0 unassigned 0" ∷ "s 1 unassigned 0" ∷ "q 9223372079804448768 9223372058329612289" ∷ "l" ∷ "ok" ∷ "s 0 assigned 0 0 0" ∷ "s 1 unassigned 0" ∷ "q 9223372058329612289" ∷ "l 0:0" ∷ "u 0 4 20 held 0 -" ∷ "refused 15" ∷ "s 0 assigned 0 0 0" ∷ "s 1 unassigned 0" ∷ "q 9223372058329612289" ∷ "l 0:0" ∷ "u 0 4 20 held 0 -" ∷ "refused 15" ∷ "s 0 assigned 0 0 0" ∷ "s 1 unassigned 0" ∷ "q 9223372058329612289" ∷ "l 0:0" ∷ "u 0 4 20 held 0 -" ∷ "ok" ∷ "s 0 unassigned 0" ∷ "s 1 unassigned 0" ∷ "q 9223372079804448768 9223372058329612289" ∷ "l 0:0" ∷ "end spent 1" ∷ "s 0 assigned 0 0 0" ∷ "s 1 unassigned 0" ∷ "q 9223372058329612289" ∷ "l 0:0" ∷ "u 0 4 20 held 0 -" ∷ "h 0 0" ∷ [];
     }
     ∷
     -- 15 goes ahead of 8 and 9, and of 13; a missing buffer is a short one
     record {
       job = "0B 01 0100000000000000 01 0100 0200 2C 0000803F 0A000000 0100 04000000140000000100 2C 00000040 05000000 0100 08000000100000000200";
-      calls = calls (placing [] 2 1 nan) ∷ calls (evicting loadLimits 2) ∷ calls (evicting (oneShort 16) 0) ∷ [];
+      calls = calls (placing [] 2 1 nan) ∷ calls (evicting loadLimits 2) ∷ calls (evicting (oneShort 6) 0) ∷ [];
       shows = "refused 15" ∷ "s 0 unassigned 0" ∷ "s 1 unassigned 0" ∷ "q 9223372079804448768 9223372058329612289" ∷ "l" ∷ "refused 15" ∷ "s 0 unassigned 0" ∷ "s 1 unassigned 0" ∷ "q 9223372079804448768 9223372058329612289" ∷ "l" ∷ "refused 15" ∷ "s 0 unassigned 0" ∷ "s 1 unassigned 0" ∷ "q 9223372079804448768 9223372058329612289" ∷ "l" ∷ [];
     }
     ∷
@@ -485,6 +485,6 @@ abbrev answerOfLoad : Loaded → ℕ
 answerOfLoad (notLoaded n) = n
 answerOfLoad (loaded j) = 0
 
-loads-right : T (all (λ i. eqb (answerOfLoad (load (oneShort i) (0 ∷ []))) 15) (count 0 19) && eqb (answerOfLoad (load longer (0 ∷ []))) 0)
+loads-right : T (all (λ i. eqb (answerOfLoad (load (oneShort i) (0 ∷ []))) 15) (count 0 (length stageLimits)) && eqb (answerOfLoad (load longer (0 ∷ []))) 0)
 unfolding opened
 loads-right = tt

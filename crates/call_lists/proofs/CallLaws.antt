@@ -13,7 +13,7 @@ use Rattle.reg_matrix.specs.Lists.{isNil}
 use Rattle.reg_matrix.specs.Refusals.{refusal, shortBuffer}
 use Rattle.matrix.specs.Walk.{refusalNumber as numberOf}
 use Rattle.job.specs.Model.{Job}
-use Rattle.job.specs.Layout.{JobBuffers}
+use Rattle.job.specs.Layout.{JobSlices}
 use Rattle.job.specs.declared.JobHeader.{JobHeader}
 use Rattle.allocator.specs.declared.Assignment.{Assignment}
 use Rattle.allocator.specs.State.{State, isUnassigned, checkOf}
@@ -98,7 +98,7 @@ numbers-running j s l b n e x is nothing so = go (shortBuffer stageLimits l) is
 
 -- ---- the three kinds
 
-module _ (header : JobHeader) (B : JobBuffers) (S : StateBuffers) (rs : List Assignment) (S′ : StateBuffers) (rs′ : List Assignment) (kind number reg weight : ℕ) where
+module _ (header : JobHeader) (B : JobSlices) (S : StateBuffers) (rs : List Assignment) (S′ : StateBuffers) (rs′ : List Assignment) (kind number reg weight : ℕ) where
   pub placed-so :
       kind ≡ 1
       → (v : ℕ) → v ≡ capped 65535 number → (r : ℕ) → r ≡ capped 255 reg → (w : ℕ) → w ≡ capped 0xFFFF_FFFF weight

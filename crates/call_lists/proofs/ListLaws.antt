@@ -12,7 +12,7 @@ use lib.Seq.{sets, drop-cons}
 use borrow.Author.Tests.{lt-leb, le-leb, lt-ltb, le-ltb}
 use Rattle.reg_matrix.specs.Lists.{concatMap, foldl}
 use Rattle.job.specs.Model.{Job}
-use Rattle.job.specs.Layout.{JobBuffers, headerOf}
+use Rattle.job.specs.Layout.{JobSlices, headerOf, listsIn}
 use Rattle.job.specs.declared.JobHeader.{JobHeader}
 use Rattle.allocator.specs.declared.Assignment.{Assignment}
 use Rattle.allocator.specs.State.{State}
@@ -124,7 +124,7 @@ pub record Going (j : Job) (s : State) (t : StateBuffers) (L list : List ℕ) (f
   pub whole : foldl (after j) x (callsIn L (drop from list)) ≡ foldl (after j) s (callsIn L list)
   pub stored : sets A₁ to (concatMap numbersOf (answers j x (callsIn L (drop from list)))) ≡ sets A 0 (concatMap numbersOf (answers j s (callsIn L list)))
 
-pub record ListTo (header : JobHeader) (B : JobBuffers) (list : List ℕ) (from to calls : ℕ)
+pub record ListTo (header : JobHeader) (B : JobSlices) (list : List ℕ) (from to calls : ℕ)
     (S : StateBuffers) (rs : List Assignment) (A : List ℕ) (S₁ : StateBuffers) (rs₁ : List Assignment) (A₁ : List ℕ) : Type 0 where
   pub calls-within : calls ≤ from
   pub to-within : to ≤ from
@@ -136,12 +136,12 @@ pub record ListTo (header : JobHeader) (B : JobBuffers) (list : List ℕ) (from 
   pub onward :
       (j : Job) (s : State) (t : StateBuffers)
       → Reached j s
-      → JobStands j B
+      → JobStands j (listsIn B)
       → header ≡ headerOf j
       → StateStands j s t S rs
       → Going j s t (sizesOf B S) list from to A S₁ rs₁ A₁
 
-module _ (header : JobHeader) (B : JobBuffers) (list : List ℕ) (S : StateBuffers) (rs : List Assignment) (A : List ℕ) where
+module _ (header : JobHeader) (B : JobSlices) (list : List ℕ) (S : StateBuffers) (rs : List Assignment) (A : List ℕ) where
   pub list-start : ListTo header B list 0 0 0 S rs A S rs A
   list-start =
       record {
@@ -201,7 +201,7 @@ module _ (header : JobHeader) (B : JobBuffers) (list : List ℕ) (S : StateBuffe
       unfolding Trace
       one-more S′ rs′ tr = rw more (S₂, rs₂, inl whole-call, tr)
 
-      going : (j : Job) (s : State) (t : StateBuffers) → Reached j s → JobStands j B → header ≡ headerOf j → StateStands j s t S rs
+      going : (j : Job) (s : State) (t : StateBuffers) → Reached j s → JobStands j (listsIn B) → header ≡ headerOf j → StateStands j s t S rs
           → Going j s t (sizesOf B S) list (from + 4) (to + 3) A S₂ rs₂ A₂
       unfolding foldl answers concatMap
       going j s t reach job head st =
@@ -260,7 +260,7 @@ module _ (header : JobHeader) (B : JobBuffers) (list : List ℕ) (S : StateBuffe
 
 -- one call whose words are read, with its numbers stored one after another
 pub call-stored :
-    (header : JobHeader) (B : JobBuffers) (L list : List ℕ) (from : ℕ) (S : StateBuffers) (rs : List Assignment) (S′ : StateBuffers) (rs′ : List Assignment) (A : List ℕ)
+    (header : JobHeader) (B : JobSlices) (L list : List ℕ) (from : ℕ) (S : StateBuffers) (rs : List Assignment) (S′ : StateBuffers) (rs′ : List Assignment) (A : List ℕ)
     → (k : ℕ) → k ≡ getD list from 0 → (m : ℕ) → m ≡ getD list (from + 1) 0 → (r : ℕ) → r ≡ getD list (from + 2) 0 → (w : ℕ) → w ≡ getD list (from + 3) 0
     → (n e x : ℕ) → CallAnswered header B (callOf L k m r w) S rs S′ rs′ n e x
     → (to : ℕ) (A₁ : List ℕ) → A₁ ≡ set A to n → (A₂ : List ℕ) → A₂ ≡ set A₁ (to + 1) e → (A₃ : List ℕ) → A₃ ≡ set A₂ (to + 2) x

@@ -7,7 +7,7 @@ use mathlib.Core.List.{List, map}
 use mathlib.Core.Bool.{false}
 use Rattle.reg_matrix.specs.Lines.{tableLines}
 use Rattle.job.specs.Model.{Job}
-use Rattle.job.specs.Layout.{JobBuffers}
+use Rattle.job.specs.Layout.{JobSlices}
 use Rattle.job.specs.declared.JobHeader.{JobHeader}
 use Rattle.allocator.specs.declared.Assignment.{Assignment}
 use Rattle.allocator.specs.State.{freshState}
@@ -22,7 +22,7 @@ use Rattle.call_lists.specs.Listed.{callsIn, noRoom, ListCarriedOut}
 -- what loading left, and a list with the calls cs that met its contract there and was not refused
 pub record ListFromLoad (j : Job) (cs : List Call) (S : StateBuffers) : Type 0 where
   pub header : JobHeader
-  pub job : JobBuffers
+  pub job : JobSlices
   pub first : StateBuffers
   pub first-records : List Assignment
   pub loaded-so : JustLoaded j header job first first-records

@@ -10,7 +10,7 @@ use lib.ListN.{length}
 use lib.Seq.{sets}
 use Rattle.reg_matrix.specs.Lists.{concatMap, foldl}
 use Rattle.job.specs.Model.{Job}
-use Rattle.job.specs.Layout.{JobBuffers, headerOf}
+use Rattle.job.specs.Layout.{JobSlices, headerOf, listsIn}
 use Rattle.job.specs.declared.JobHeader.{JobHeader}
 use Rattle.allocator.specs.declared.Assignment.{Assignment}
 use Rattle.allocator.specs.State.{State}
@@ -69,19 +69,19 @@ numbersOf a = refusalNumber a ∷ wordNumber a ∷ valueNumber a ∷ []
 -- ---- what is done
 
 -- a call that answered n, the word's number e and the value x. Of any content it is a call of a trace
-pub record CallAnswered (header : JobHeader) (B : JobBuffers) (c : Call)
+pub record CallAnswered (header : JobHeader) (B : JobSlices) (c : Call)
     (S : StateBuffers) (rs : List Assignment) (S′ : StateBuffers) (rs′ : List Assignment) (n e x : ℕ) : Type 0 where
   pub called : Called header B c S rs S′ rs′ n
   pub numbers :
       (j : Job) (s : State) (t : StateBuffers)
       → Reached j s
-      → JobStands j B
+      → JobStands j (listsIn B)
       → header ≡ headerOf j
       → StateStands j s t S rs
       → (e ≡ wordNumber (answerOf j s c)) × (x ≡ valueNumber (answerOf j s c))
 
 -- the same, with its three numbers stored in A from place `to` on
-pub record CallStored (header : JobHeader) (B : JobBuffers) (c : Call)
+pub record CallStored (header : JobHeader) (B : JobSlices) (c : Call)
     (S : StateBuffers) (rs : List Assignment) (S′ : StateBuffers) (rs′ : List Assignment) (A : List ℕ) (to : ℕ) (A′ : List ℕ) : Type 0 where
   pub n : ℕ
   pub e : ℕ
@@ -91,14 +91,14 @@ pub record CallStored (header : JobHeader) (B : JobBuffers) (c : Call)
 
 -- A list of calls, from S and rs to S′ and rs′. Of any content: all its calls are made, each on what the last one left. On a state that calls reach: the
 -- state after the list stands there, and A has the numbers of the answers from its front on, three for each call.
-pub record ListDone (header : JobHeader) (B : JobBuffers) (list : List ℕ)
+pub record ListDone (header : JobHeader) (B : JobSlices) (list : List ℕ)
     (S : StateBuffers) (rs : List Assignment) (A : List ℕ) (S′ : StateBuffers) (rs′ : List Assignment) (A′ : List ℕ) (done : ℕ) : Type 0 where
   pub counted : done ≡ length (callsIn (sizesOf B S) list)
   pub traced : Trace header B S rs (callsIn (sizesOf B S) list) S′ rs′
   pub reached :
       (j : Job) (s : State) (t : StateBuffers)
       → Reached j s
-      → JobStands j B
+      → JobStands j (listsIn B)
       → header ≡ headerOf j
       → StateStands j s t S rs
       → StateStands j (foldl (after j) s (callsIn (sizesOf B S) list)) t S′ rs′
@@ -109,7 +109,7 @@ abbrev pub noRoom : List ℕ → List ℕ → Bool
 noRoom A list = ltb (length A / 3) (length list / 4)
 
 -- 15 alone, with nothing changed, where the answers have no room; else the list is carried out
-pub record ListCarriedOut (header : JobHeader) (B : JobBuffers) (list : List ℕ)
+pub record ListCarriedOut (header : JobHeader) (B : JobSlices) (list : List ℕ)
     (S : StateBuffers) (rs : List Assignment) (A : List ℕ) (S′ : StateBuffers) (rs′ : List Assignment) (A′ : List ℕ) (refusal done : ℕ) : Type 0 where
   pub short : noRoom A list ≡ true → (refusal ≡ 15) × (done ≡ 0) × (S′ ≡ S) × (rs′ ≡ rs) × (A′ ≡ A)
   pub carried : noRoom A list ≡ false → (refusal ≡ 0) × ListDone header B list S rs A S′ rs′ A′ done

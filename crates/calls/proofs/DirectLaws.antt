@@ -14,7 +14,7 @@ use Rattle.lent.proofs.Laws.{any-default}
 use Rattle.reg_matrix.proofs.Places.{from-zero}
 use Rattle.matrix.specs.Walk.{refusalNumber as numberOf}
 use Rattle.job.specs.Model.{Job}
-use Rattle.job.specs.Layout.{JobBuffers, headerOf}
+use Rattle.job.specs.Layout.{JobSlices, listsIn, headerOf}
 use Rattle.job.specs.declared.JobHeader.{JobHeader}
 use Rattle.job.proofs.Premises.{IsNumber}
 use Rattle.allocator.specs.declared.Assignment.{Assignment}
@@ -32,9 +32,9 @@ use Rattle.stage.proofs.ReachedMoves.{evict-held}
 use Rattle.decisions.specs.Deciding.{flagIn, regIn}
 use Rattle.context.specs.Standing.{JobStands}
 use Rattle.context.specs.Carrying.{Taken, TakenBack}
-use Rattle.calls.specs.Testing.{placeTests, evictTests}
+use Rattle.calls.specs.Testing.{clearTo, placeTests, evictTests}
 use Rattle.context.specs.Running.{lentState}
-use Rattle.calls.specs.Calling.{refusalNumber, valueNumber, sizesOf, StateStands, unknownTo, clearTo, placeAnswer, evictAnswer, Placed, Evicted}
+use Rattle.calls.specs.Calling.{refusalNumber, valueNumber, sizesOf, StateStands, unknownTo, placeAnswer, evictAnswer, Placed, Evicted}
 use Rattle.calls.proofs.RefusalLaws.{none-placing, none-evicting, named-read, clear-read, held-is, placing-tests, evicting-tests, refused-first}
 
 -- ---- any call
@@ -83,8 +83,8 @@ pub record-inside : (rs : List Assignment) (v : ℕ) (d : Assignment) → length
 record-inside rs v d l h = any-default rs v d Dead (omega (arith, l, h))
 
 -- it was read on a state that calls reach
-module _ (B : JobBuffers) (v : ℕ) (S : StateBuffers) (rs : List Assignment) (a : Assignment) (read : a ≡ getD rs v Dead) where
-  read-record : (j : Job) (s : State) (t : StateBuffers) → Good j s → JobStands j B → StateStands j s t S rs → IsNumber j v → a ≡ recordOf s v
+module _ (B : JobSlices) (v : ℕ) (S : StateBuffers) (rs : List Assignment) (a : Assignment) (read : a ≡ getD rs v Dead) where
+  read-record : (j : Job) (s : State) (t : StateBuffers) → Good j s → JobStands j (listsIn B) → StateStands j s t S rs → IsNumber j v → a ≡ recordOf s v
   unfolding records
   read-record j s t g jb st b =
       read ∙ ap (λ (l : List Assignment). getD l v Dead) (st .records-are) ∙ from-zero (recordOf s) Dead 512 v (omega (arith, b, g .premises .few-numbers))
@@ -93,38 +93,38 @@ module _ (B : JobBuffers) (v : ℕ) (S : StateBuffers) (rs : List Assignment) (a
 
 -- the answer by what the code found of the buffers
 pub place-answered :
-    (header : JobHeader) (B : JobBuffers) (v reg bits : ℕ) (S : StateBuffers) (a : Assignment) (lends : Bool)
+    (header : JobHeader) (B : JobSlices) (v reg bits : ℕ) (S : StateBuffers) (a : Assignment) (lends : Bool)
     → lends ≡ shortBuffer stageLimits (sizesOf B S)
     → (n : ℕ)
-    → n ≡ numberOf (refusal (placeTests lends (unknownTo header B v reg) bits a (clearTo B S v reg)))
+    → n ≡ numberOf (refusal (placeTests lends (unknownTo header B v reg) bits a (clearTo B (S .ends) (S .rests) v reg)))
     → n ≡ placeAnswer header B v reg bits S a
 unfolding placeAnswer
 place-answered header B v reg bits S a lends pl n pn = rw (← pl) pn
 
-module _ (header : JobHeader) (B : JobBuffers) (v reg bits : ℕ) (S : StateBuffers) (rs : List Assignment) (a : Assignment) (read : a ≡ getD rs v Dead)
+module _ (header : JobHeader) (B : JobSlices) (v reg bits : ℕ) (S : StateBuffers) (rs : List Assignment) (a : Assignment) (read : a ≡ getD rs v Dead)
     (n : ℕ) (is : n ≡ placeAnswer header B v reg bits S a) where
   abbrev placeCall : Call
   placeCall = placing (sizesOf B S) v reg (ofBits binary32 bits)
 
-  no-refusal : n ≡ 0 → refusal (placeTests (shortBuffer stageLimits (sizesOf B S)) (unknownTo header B v reg) bits a (clearTo B S v reg)) ≡ none
+  no-refusal : n ≡ 0 → refusal (placeTests (shortBuffer stageLimits (sizesOf B S)) (unknownTo header B v reg) bits a (clearTo B (S .ends) (S .rests) v reg)) ≡ none
   unfolding placeAnswer
-  no-refusal z = none-placing (shortBuffer stageLimits (sizesOf B S)) (unknownTo header B v reg) bits a (clearTo B S v reg) (sym is ∙ z)
+  no-refusal z = none-placing (shortBuffer stageLimits (sizesOf B S)) (unknownTo header B v reg) bits a (clearTo B (S .ends) (S .rests) v reg) (sym is ∙ z)
 
   short-placing : shortBuffer stageLimits (sizesOf B S) ≡ true → n ≡ 15
   unfolding placeAnswer
   short-placing e = is ∙ refused-first 15 _ _ e
 
-  module _ (j : Job) (s : State) (t : StateBuffers) (r : Reached j s) (jb : JobStands j B) (h : header ≡ headerOf j) (st : StateStands j s t S rs) where
+  module _ (j : Job) (s : State) (t : StateBuffers) (r : Reached j s) (jb : JobStands j (listsIn B)) (h : header ≡ headerOf j) (st : StateStands j s t S rs) where
     -- the tests are those of the rules
     place-tests-are :
-        refusal (placeTests (shortBuffer stageLimits (sizesOf B S)) (unknownTo header B v reg) bits a (clearTo B S v reg)) ≡ refusalOf j s placeCall
+        refusal (placeTests (shortBuffer stageLimits (sizesOf B S)) (unknownTo header B v reg) bits a (clearTo B (S .ends) (S .rests) v reg)) ≡ refusalOf j s placeCall
     unfolding headerOf
     place-tests-are =
         let g = good-reached j s r in
         rw h
         (placing-tests j s g (sizesOf B S) v (shortBuffer stageLimits (sizesOf B S)) refl a (read-record B v S rs a read j s t g jb st) reg bits _ _
-        (λ b. named-read j s g B (jb .reads) v b reg)
-        (λ b k. clear-read j s g B (jb .reads) v b (t .ends) (t .rests) (S .ends) (S .rests) (st .stands .moves .table) reg k))
+        (λ b. named-read j s g (listsIn B) (jb .reads) v b reg)
+        (λ b k. clear-read j s g (listsIn B) (jb .reads) v b (t .ends) (t .rests) (S .ends) (S .rests) (st .stands .moves .table) reg k))
 
     place-number : n ≡ numberOf (refusalOf j s placeCall)
     unfolding placeAnswer
@@ -160,12 +160,12 @@ module _ (header : JobHeader) (B : JobBuffers) (v reg bits : ℕ) (S : StateBuff
       nleb→lt 0x7F80_0000 bits (all-pass 9 (leb 0x7F80_0000 bits) _ (c .1) .0)
 
   module _ (z : n ≡ 0) (ends′ rests′ queue′ last′ : List ℕ)
-      (tk : Taken v reg (B .regs) (B .fixedUses) (B .valueSets) (B .segmentStarts) (B .froms) (B .tos) (S .ends) (S .rests) (S .queue) (S .last)
+      (tk : Taken v reg (listsIn B .regs) (listsIn B .fixedUses) (listsIn B .valueSets) (listsIn B .segmentStarts) (listsIn B .froms) (listsIn B .tos) (S .ends) (S .rests) (S .queue) (S .last)
       ends′ rests′ queue′ last′)
       (f : Bool) (w : Float) (pf : f ≡ flagIn a) (pw : bits < 0x7F80_0000 → w ≡ ofBits binary32 bits)
       (rs′ : List Assignment) (pr : rs′ ≡ set rs v (Assigned f reg w)) where
     given :
-        (j : Job) (s : State) (t : StateBuffers) → Reached j s → JobStands j B → StateStands j s t S rs
+        (j : Job) (s : State) (t : StateBuffers) → Reached j s → JobStands j (listsIn B) → StateStands j s t S rs
         → Placeable j s (sizesOf B S) v reg (ofBits binary32 bits)
         → StateStands j (give j v (candidate reg (ofBits binary32 bits)) false s) t (lentState ends′ rests′ queue′ last′) rs′
     given j s t r jb st k =
@@ -222,7 +222,7 @@ is-some : {A : Type 0} (o : Option A) → T (isSome o) → (x : A) × (o ≡ som
 is-some none t = absurd t
 is-some (some x) t = (x, refl)
 
-module _ (header : JobHeader) (B : JobBuffers) (v : ℕ) (S : StateBuffers) (rs : List Assignment) (a : Assignment) (read : a ≡ getD rs v Dead)
+module _ (header : JobHeader) (B : JobSlices) (v : ℕ) (S : StateBuffers) (rs : List Assignment) (a : Assignment) (read : a ≡ getD rs v Dead)
     (lends : Bool) (pl : lends ≡ shortBuffer stageLimits (sizesOf B S))
     (n : ℕ) (is : n ≡ numberOf (refusal (evictTests lends (leb (header .«virt_regs») v) a))) where
   abbrev evictCall : Call
@@ -231,7 +231,7 @@ module _ (header : JobHeader) (B : JobBuffers) (v : ℕ) (S : StateBuffers) (rs 
   short-evicting : shortBuffer stageLimits (sizesOf B S) ≡ true → n ≡ 15
   short-evicting e = is ∙ refused-first 15 lends _ (pl ∙ e)
 
-  module _ (j : Job) (s : State) (t : StateBuffers) (r : Reached j s) (jb : JobStands j B) (h : header ≡ headerOf j) (st : StateStands j s t S rs) where
+  module _ (j : Job) (s : State) (t : StateBuffers) (r : Reached j s) (jb : JobStands j (listsIn B)) (h : header ≡ headerOf j) (st : StateStands j s t S rs) where
     evict-tests-are : refusal (evictTests lends (leb (header .«virt_regs») v) a) ≡ refusalOf j s evictCall
     unfolding headerOf
     evict-tests-are =
@@ -267,10 +267,10 @@ module _ (header : JobHeader) (B : JobBuffers) (v : ℕ) (S : StateBuffers) (rs 
       }
 
   module _ (z : n ≡ 0) (reg x : ℕ) (pg : reg ≡ regIn a) (px : x ≡ reg) (ends′ rests′ queue′ : List ℕ)
-      (tb : TakenBack v reg (B .regs) (B .fixedUses) (B .sizes) (B .hintStarts) (B .segmentStarts) (B .tos) (S .ends) (S .rests) (S .queue) ends′ rests′ queue′)
+      (tb : TakenBack v reg (listsIn B .regs) (listsIn B .fixedUses) (listsIn B .sizes) (listsIn B .hintStarts) (listsIn B .segmentStarts) (listsIn B .tos) (S .ends) (S .rests) (S .queue) ends′ rests′ queue′)
       (f : Bool) (pf : f ≡ flagIn a) (rs′ : List Assignment) (pr : rs′ ≡ set rs v (Unassigned f)) where
     lost :
-        (j : Job) (s : State) (t : StateBuffers) → Reached j s → JobStands j B → StateStands j s t S rs
+        (j : Job) (s : State) (t : StateBuffers) → Reached j s → JobStands j (listsIn B) → StateStands j s t S rs
         → IsNumber j v → (c : CandidateReg) → heldBy s v ≡ some c
         → StateStands j (lose j v (c .reg) s) t (lentState ends′ rests′ queue′ (S .last)) rs′
     lost j s t r jb st b c e =

@@ -5,18 +5,36 @@ use mathlib.Core.Path.{_≡_, refl, sym, ap, _∙_, subst}
 use mathlib.Core.List.{List}
 use mathlib.Core.Option.{Option, none, some}
 use mathlib.Core.Bool.{Bool, true, false}
+use lib.Ieee.{Float}
+use lib.ListN.{drop}
 use Rattle.reg_matrix.specs.Refusals.{refusal, shortBuffer}
 use Rattle.job.specs.Model.{Job}
-use Rattle.job.specs.Layout.{JobBuffers}
+use Rattle.job.specs.Layout.{JobBuffers, JobSlices, listsIn}
 use Rattle.allocator.specs.declared.Assignment.{Assignment}
 use Rattle.allocator.specs.State.{State}
 use Rattle.allocator.specs.Layout.{StateBuffers, stageLimits}
 use Rattle.allocator.specs.Run.{run}
 use Rattle.allocator.specs.Calls.{running, refusalOf, unlessRefused, carriedOut, after, orRefused, answerOf}
-use Rattle.context.specs.Running.{RunDone}
+use Rattle.context.specs.Running.{lentJob, RunDone}
 use Rattle.calls.specs.Calling.{sizesOf, refusalNumber, Called, RunCalled}
 
-module _ (B : JobBuffers) (budget : ℕ) (S : StateBuffers) (rs : List Assignment) where
+-- the lists that the code takes from the slices are those of the job
+pub lists-taken :
+    (B : JobSlices) {us kinds sets sizes hs hr ss ts vs : List ℕ} {hw : List Float}
+    → us ≡ drop 64 (B .job64)
+    → kinds ≡ drop 1024 (B .job8)
+    → sets ≡ drop 17 (B .job16)
+    → sizes ≡ drop 1024 (B .job32)
+    → hs ≡ drop 1041 (B .job16)
+    → hr ≡ drop 1536 (B .job8)
+    → hw ≡ drop 512 (B .weights)
+    → ss ≡ drop 1554 (B .job16)
+    → ts ≡ drop 512 (B .job32)
+    → vs ≡ drop 529 (B .job16)
+    → lentJob (B .job64) (B .job16) (B .job8) us kinds sets (B .weights) sizes hs hr hw ss (B .job32) ts vs ≡ listsIn B
+lists-taken B a b c d e f g h i k = rw (a, b, c, d, e, f, g, h, i, k)
+
+module _ (B : JobSlices) (budget : ℕ) (S : StateBuffers) (rs : List Assignment) where
   pub run-short : shortBuffer stageLimits (sizesOf B S) ≡ true → RunCalled B budget S rs S rs 15 0 0
   unfolding after answerOf refusalOf refusal
   run-short e =
@@ -33,12 +51,14 @@ module _ (B : JobBuffers) (budget : ℕ) (S : StateBuffers) (rs : List Assignmen
       }
 
   pub run-carried :
-      (S′ : StateBuffers) (rs′ : List Assignment) (ending dequeues : ℕ)
+      (S′ : StateBuffers) (rs′ : List Assignment) (ending dequeues : ℕ) (lists : JobBuffers)
       → shortBuffer stageLimits (sizesOf B S) ≡ false
-      → RunDone budget B rs S rs′ S′ ending dequeues
+      → lists ≡ listsIn B
+      → RunDone budget lists rs S rs′ S′ ending dequeues
       → RunCalled B budget S rs S′ rs′ 0 ending dequeues
   unfolding after answerOf refusalOf refusal carriedOut
-  run-carried S′ rs′ ending dequeues e done =
+  run-carried S′ rs′ ending dequeues lists e q d =
+      let done = subst (λ (b : JobBuffers). RunDone budget b rs S rs′ S′ ending dequeues) q d in
       record {
         nothing = λ n. absurd (n refl);
         called =

@@ -21,7 +21,7 @@ use Rattle.matrix.proofs.Decode.{Small, entry-back}
 use Rattle.matrix.proofs.Standing.{word-small}
 use Rattle.job.specs.Model.{Job}
 use Rattle.job.specs.Load.{loaded}
-use Rattle.job.specs.Layout.{JobBuffers, headerOf}
+use Rattle.job.specs.Layout.{JobSlices, listsIn, headerOf}
 use Rattle.job.specs.declared.JobHeader.{JobHeader}
 use Rattle.allocator.specs.declared.Assignment.{Assignment}
 use Rattle.allocator.specs.State.{State, freshState}
@@ -95,7 +95,7 @@ short-after j s (running lent b) e = rw e
 
 -- ---- a trace
 
-module _ (j : Job) (header : JobHeader) (B : JobBuffers) (job : JobStands j B) (head : header ≡ headerOf j) (t : StateBuffers) where
+module _ (j : Job) (header : JobHeader) (B : JobSlices) (job : JobStands j (listsIn B)) (head : header ≡ headerOf j) (t : StateBuffers) where
   pub trace-stands :
       (cs : List Call) (s : State) (S : StateBuffers) (rs : List Assignment) (S′ : StateBuffers) (rs′ : List Assignment)
       → Reached j s

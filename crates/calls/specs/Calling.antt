@@ -9,7 +9,7 @@ use lib.ListN.{length, getD, set}
 use Rattle.reg_matrix.specs.Refusals.{refusal, shortBuffer}
 use Rattle.matrix.specs.Walk.{refusalNumber as numberOf}
 use Rattle.job.specs.Model.{Job}
-use Rattle.job.specs.Layout.{JobBuffers, headerOf}
+use Rattle.job.specs.Layout.{JobSlices, listsIn, headerOf}
 use Rattle.job.specs.declared.JobHeader.{JobHeader}
 use Rattle.allocator.specs.declared.Assignment.{Assignment}
 use Rattle.allocator.specs.declared.Assignment.the-variants.{Assigned, Unassigned, Dead}
@@ -21,7 +21,7 @@ use Rattle.allocator.specs.Run.{run}
 use Rattle.decisions.specs.Deciding.{flagIn, regIn}
 use Rattle.context.specs.Standing.{JobStands, Stands}
 use Rattle.context.specs.Running.{endingNumber}
-use Rattle.calls.specs.Testing.{namedIn, unknownIn, clearAt, placeTests, evictTests}
+use Rattle.calls.specs.Testing.{namedTo, unknownIn, clearTo, placeTests, evictTests}
 
 -- ---- an answer in numbers
 
@@ -42,23 +42,13 @@ valueNumber (ended e n) = n
 -- ---- what is lent
 
 -- the sizes of what is lent, in the order of the limits
-abbrev pub sizesOf : JobBuffers → StateBuffers → List ℕ
+abbrev pub sizesOf : JobSlices → StateBuffers → List ℕ
 sizesOf B S =
-    length (B .regs)
-    ∷ length (B .classStarts)
-    ∷ length (B .classRegs)
-    ∷ length (B .fixedUses)
-    ∷ length (B .classes)
-    ∷ length (B .valueSets)
-    ∷ length (B .spillWeights)
-    ∷ length (B .sizes)
-    ∷ length (B .hintStarts)
-    ∷ length (B .hintRegs)
-    ∷ length (B .hintWeights)
-    ∷ length (B .segmentStarts)
-    ∷ length (B .froms)
-    ∷ length (B .tos)
-    ∷ length (B .values)
+    length (B .job64)
+    ∷ length (B .job32)
+    ∷ length (B .job16)
+    ∷ length (B .job8)
+    ∷ length (B .weights)
     ∷ length (S .ends)
     ∷ length (S .rests)
     ∷ length (S .queue)
@@ -72,22 +62,17 @@ pub record StateStands (j : Job) (s : State) (t : StateBuffers) (S : StateBuffer
 
 -- ---- the calls
 
--- tests 8 and 14 of a placement, by what is lent
-abbrev pub unknownTo : JobHeader → JobBuffers → ℕ → ℕ → Bool
-unknownTo header B v reg =
-    unknownIn (header .«virt_regs») (header .regs) v reg
-    (namedIn (B .classStarts) (B .classRegs) (B .classes) (B .valueSets) (B .hintStarts) (B .hintRegs) (header .«virt_regs») v reg)
-
-abbrev pub clearTo : JobBuffers → StateBuffers → ℕ → ℕ → Bool
-clearTo B S v reg = clearAt (B .regs) (B .fixedUses) (B .segmentStarts) (B .froms) (B .tos) (B .values) (S .ends) (S .rests) v reg
+-- test 8 of a placement, by what is lent
+abbrev pub unknownTo : JobHeader → JobSlices → ℕ → ℕ → Bool
+unknownTo header B v reg = unknownIn (header .«virt_regs») (header .regs) v reg (namedTo B (header .«virt_regs») v reg)
 
 -- the refusal of a placement by what is lent and the record of v, or 0
-unfoldable pub placeAnswer : JobHeader → JobBuffers → ℕ → ℕ → ℕ → StateBuffers → Assignment → ℕ
+unfoldable pub placeAnswer : JobHeader → JobSlices → ℕ → ℕ → ℕ → StateBuffers → Assignment → ℕ
 placeAnswer header B v reg bits S a =
-    numberOf (refusal (placeTests (shortBuffer stageLimits (sizesOf B S)) (unknownTo header B v reg) bits a (clearTo B S v reg)))
+    numberOf (refusal (placeTests (shortBuffer stageLimits (sizesOf B S)) (unknownTo header B v reg) bits a (clearTo B (S .ends) (S .rests) v reg)))
 
 -- the same of an eviction
-unfoldable pub evictAnswer : JobHeader → JobBuffers → ℕ → StateBuffers → Assignment → ℕ
+unfoldable pub evictAnswer : JobHeader → JobSlices → ℕ → StateBuffers → Assignment → ℕ
 evictAnswer header B v S a = numberOf (refusal (evictTests (shortBuffer stageLimits (sizesOf B S)) (leb (header .«virt_regs») v) a))
 
 -- slices and records are as they were
@@ -97,28 +82,28 @@ pub record Unchanged (S : StateBuffers) (rs : List Assignment) (S′ : StateBuff
 
 -- A call c that answered n, from S and rs to S′ and rs′. Of any content: a short buffer is refused with 15, and what is refused changes nothing. On a
 -- state that calls reach: the answer is the definition's, and the state that the definition gives stands there afterwards.
-pub record Called (header : JobHeader) (B : JobBuffers) (c : Call)
+pub record Called (header : JobHeader) (B : JobSlices) (c : Call)
     (S : StateBuffers) (rs : List Assignment) (S′ : StateBuffers) (rs′ : List Assignment) (n : ℕ) : Type 0 where
   pub short : shortBuffer stageLimits (sizesOf B S) ≡ true → n ≡ 15
   pub unchanged : (n ≡ 0 → ⊥) → Unchanged S rs S′ rs′
   pub reached :
       (j : Job) (s : State) (t : StateBuffers)
       → Reached j s
-      → JobStands j B
+      → JobStands j (listsIn B)
       → header ≡ headerOf j
       → StateStands j s t S rs
       → (n ≡ refusalNumber (answerOf j s c)) × StateStands j (after j s c) t S′ rs′
 
 -- a direct placement of v in the register with the weight of these bits. Of any content: the answer is that of the tests over what is lent, and the
 -- records are decided
-pub record Placed (header : JobHeader) (B : JobBuffers) (v reg bits : ℕ)
+pub record Placed (header : JobHeader) (B : JobSlices) (v reg bits : ℕ)
     (S : StateBuffers) (rs : List Assignment) (S′ : StateBuffers) (rs′ : List Assignment) (n : ℕ) : Type 0 where
   pub answer : n ≡ placeAnswer header B v reg bits S (getD rs v Dead)
   pub recorded : n ≡ 0 → rs′ ≡ set rs v (Assigned (flagIn (getD rs v Dead)) reg (ofBits binary32 bits))
   pub called : Called header B (placing (sizesOf B S) v reg (ofBits binary32 bits)) S rs S′ rs′ n
 
 -- a direct eviction of v, which answered the register r too. The same of any content
-pub record Evicted (header : JobHeader) (B : JobBuffers) (v : ℕ)
+pub record Evicted (header : JobHeader) (B : JobSlices) (v : ℕ)
     (S : StateBuffers) (rs : List Assignment) (S′ : StateBuffers) (rs′ : List Assignment) (n r : ℕ) : Type 0 where
   pub answer : n ≡ evictAnswer header B v S (getD rs v Dead)
   pub recorded : n ≡ 0 → (rs′ ≡ set rs v (Unassigned (flagIn (getD rs v Dead)))) × (r ≡ regIn (getD rs v Dead))
@@ -127,19 +112,19 @@ pub record Evicted (header : JobHeader) (B : JobBuffers) (v : ℕ)
   pub taken-away :
       (j : Job) (s : State) (t : StateBuffers)
       → Reached j s
-      → JobStands j B
+      → JobStands j (listsIn B)
       → header ≡ headerOf j
       → StateStands j s t S rs
       → r ≡ valueNumber (answerOf j s (evicting (sizesOf B S) v))
 
 -- a run with a budget, which answered its word's number and its dequeues too; it needs no header
-pub record RunCalled (B : JobBuffers) (budget : ℕ) (S : StateBuffers) (rs : List Assignment) (S′ : StateBuffers) (rs′ : List Assignment) (n ending dequeues : ℕ) : Type 0 where
+pub record RunCalled (B : JobSlices) (budget : ℕ) (S : StateBuffers) (rs : List Assignment) (S′ : StateBuffers) (rs′ : List Assignment) (n ending dequeues : ℕ) : Type 0 where
   pub nothing : (n ≡ 0 → ⊥) → (ending ≡ 0) × (dequeues ≡ 0)
   pub called : (header : JobHeader) → Called header B (running (sizesOf B S) budget) S rs S′ rs′ n
   pub ended-so :
       (j : Job) (s : State) (t : StateBuffers)
       → Reached j s
-      → JobStands j B
+      → JobStands j (listsIn B)
       → StateStands j s t S rs
       → n ≡ 0
       → (ending ≡ endingNumber (run j budget s .ending)) × (dequeues ≡ run j budget s .dequeues)

@@ -8,7 +8,7 @@ use lib.ListN.{drop, replicate}
 use Rattle.reg_matrix.specs.Layout.{maxEntries, endWords, restWords}
 use Rattle.job.specs.Model.{Job}
 use Rattle.job.specs.Load.{Loaded, notLoaded, loaded}
-use Rattle.job.specs.Layout.{JobBuffers, headerOf}
+use Rattle.job.specs.Layout.{JobSlices, headerOf}
 use Rattle.allocator.specs.declared.Assignment.{Assignment}
 use Rattle.allocator.specs.declared.Assignment.the-variants.{Unassigned}
 use Rattle.allocator.specs.State.{freshState}
@@ -30,15 +30,15 @@ laterState j S =
     }
 
 -- and in the job's
-abbrev pub laterJob : Job → JobBuffers → StateBuffers → JobBuffers
+abbrev pub laterJob : Job → JobSlices → StateBuffers → JobSlices
 laterJob j B S = later j (lent B (S .ends) (S .rests)) .job
 
-abbrev pub StageLoadParts : JobBuffers → StateBuffers → JobBuffers → StateBuffers → JobLoaded → Loaded → Type 0
+abbrev pub StageLoadParts : JobSlices → StateBuffers → JobSlices → StateBuffers → JobLoaded → Loaded → Type 0
 StageLoadParts B S B′ S′ r (notLoaded n) = (r ≡ Refused n) × (B′ ≡ B) × (S′ ≡ S)
 StageLoadParts B S B′ S′ r (loaded j) = (r ≡ Is (headerOf j)) × (B′ ≡ laterJob j B S) × (S′ ≡ laterState j S)
 
 -- loading the bytes, where B and S are lent, answers r and leaves B′ and S′: a refusal leaves all as it was
-pub record StageLoadDone (bytes : List ℕ) (B : JobBuffers) (S : StateBuffers) (B′ : JobBuffers) (S′ : StateBuffers) (r : JobLoaded) : Type 0 where
+pub record StageLoadDone (bytes : List ℕ) (B : JobSlices) (S : StateBuffers) (B′ : JobSlices) (S′ : StateBuffers) (r : JobLoaded) : Type 0 where
   pub parts : StageLoadParts B S B′ S′ r (load (sizesOf B S) bytes)
 
 -- 01, "Where the Rust's forms give way": "The 512 records start out unassigned"

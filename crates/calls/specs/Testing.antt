@@ -6,6 +6,7 @@ use lib.Dec.{leb, eqb}
 use lib.ListN.{getD}
 use Rattle.reg_matrix.specs.Lists.{any, has, count, isNil}
 use Rattle.reg_matrix.specs.Refusals.{Test, _if_}
+use Rattle.job.specs.Layout.{JobSlices, listsIn}
 use Rattle.matrix.specs.Walk.{lent}
 use Rattle.allocator.specs.declared.Assignment.{Assignment}
 use Rattle.allocator.specs.declared.Assignment.the-variants.{Assigned, Unassigned, Dead}
@@ -27,6 +28,11 @@ unfoldable pub namedIn : List ℕ → List ℕ → List ℕ → List ℕ → Lis
 namedIn classStarts classRegs classes sets starts hints n v r =
     has r (shareOf classStarts (getD classes v 0) classRegs) || any (hintedAt sets starts hints (getD sets v 0) r) (count 0 n)
 
+-- the same of a job's slices
+abbrev pub namedTo : JobSlices → ℕ → ℕ → ℕ → Bool
+namedTo B n v r =
+    namedIn (listsIn B .classStarts) (listsIn B .classRegs) (listsIn B .classes) (listsIn B .valueSets) (listsIn B .hintStarts) (listsIn B .hintRegs) n v r
+
 -- test 8 of a placement, of n numbers and m registers
 abbrev pub unknownIn : ℕ → ℕ → ℕ → ℕ → Bool → Bool
 unknownIn n m v r names = leb n v || (leb m r || not names)
@@ -35,6 +41,11 @@ unknownIn n m v r names = leb n v || (leb m r || not names)
 unfoldable pub clearAt : List ℕ → List ℕ → List ℕ → List ℕ → List ℕ → List ℕ → List ℕ → List ℕ → ℕ → ℕ → Bool
 clearAt maps uses starts froms tos values ends rests v r =
     isNil (reportsOn (lent ends rests uses (shareOf starts v froms) (shareOf starts v tos) (shareOf starts v values)) (getD maps r 0))
+
+-- the same of a job's slices and the table's
+abbrev pub clearTo : JobSlices → List ℕ → List ℕ → ℕ → ℕ → Bool
+clearTo B ends rests v r =
+    clearAt (listsIn B .regs) (listsIn B .fixedUses) (listsIn B .segmentStarts) (listsIn B .froms) (listsIn B .tos) (listsIn B .values) ends rests v r
 
 -- the tests of a placement, of what was found; infinity and all bits above it are no weight
 abbrev pub placeTests : Bool → Bool → ℕ → Assignment → Bool → List Test

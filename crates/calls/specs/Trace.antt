@@ -12,7 +12,7 @@ use Rattle.reg_matrix.specs.Layout.{maxEntries, greatest, entryOf}
 use Rattle.reg_matrix.specs.Lines.{tableLines}
 use Rattle.job.specs.Model.{Job}
 use Rattle.job.specs.Load.{Bytes, loaded}
-use Rattle.job.specs.Layout.{JobBuffers, headerOf}
+use Rattle.job.specs.Layout.{JobSlices, listsIn, headerOf}
 use Rattle.job.specs.declared.JobHeader.{JobHeader}
 use Rattle.allocator.specs.declared.Assignment.{Assignment}
 use Rattle.allocator.specs.State.{freshState}
@@ -43,7 +43,7 @@ lentTo (evicting lent v) = lent
 lentTo (running lent b) = lent
 
 -- the call is lent the whole state and the job
-pub record WholeCall (header : JobHeader) (B : JobBuffers) (c : Call) (S : StateBuffers) (rs : List Assignment) (S′ : StateBuffers) (rs′ : List Assignment) : Type 0 where
+pub record WholeCall (header : JobHeader) (B : JobSlices) (c : Call) (S : StateBuffers) (rs : List Assignment) (S′ : StateBuffers) (rs′ : List Assignment) : Type 0 where
   pub sizes : lentTo c ≡ sizesOf B S
   pub answer : ℕ
   pub called : Called header B c S rs S′ rs′ answer
@@ -55,7 +55,7 @@ joined a b = record { ends = a .ends ++ b .ends; rests = a .rests ++ b .rests; q
 -- "one refused 15 perhaps only part of it": the call is lent a part of the state, and some job buffers, that are too short
 pub record ShortCall (c : Call) (S : StateBuffers) (rs : List Assignment) (S′ : StateBuffers) (rs′ : List Assignment) : Type 0 where
   pub header : JobHeader
-  pub job : JobBuffers
+  pub job : JobSlices
   pub part : StateBuffers
   pub rest : StateBuffers
   pub after : StateBuffers
@@ -69,26 +69,26 @@ pub record ShortCall (c : Call) (S : StateBuffers) (rs : List Assignment) (S′ 
 -- ---- traces
 
 -- "each call gets the state that the last one left", "and nobody else writes it meanwhile"; the job's buffers never change
-unfoldable pub Trace : JobHeader → JobBuffers → StateBuffers → List Assignment → List Call → StateBuffers → List Assignment → Type 0
+unfoldable pub Trace : JobHeader → JobSlices → StateBuffers → List Assignment → List Call → StateBuffers → List Assignment → Type 0
 Trace header B S rs [] S′ rs′ = (S′ ≡ S) × (rs′ ≡ rs)
 Trace header B S rs (c ∷ cs) S′ rs′ =
     (S₁ : StateBuffers) × (rs₁ : List Assignment) × (WholeCall header B c S rs S₁ rs₁ ⊎ ShortCall c S rs S₁ rs₁) × Trace header B S₁ rs₁ cs S′ rs′
 
 -- "from a job just loaded": the job's and the fresh state's layout, with whatever is lent behind
-pub record JustLoaded (j : Job) (header : JobHeader) (B : JobBuffers) (S : StateBuffers) (rs : List Assignment) : Type 0 where
+pub record JustLoaded (j : Job) (header : JobHeader) (B : JobSlices) (S : StateBuffers) (rs : List Assignment) : Type 0 where
   pub lent : List ℕ
   pub bytes : List ℕ
   pub are-bytes : Bytes bytes
   pub loads : load lent bytes ≡ loaded j
   pub header-is : header ≡ headerOf j
-  pub job-stands : JobStands j B
+  pub job-stands : JobStands j (listsIn B)
   pub behind : StateBuffers
   pub fresh : StateStands j (freshState j) behind S rs
 
 -- a trace from loading, by the calls made
 pub record TraceOf (j : Job) (cs : List Call) (S : StateBuffers) : Type 0 where
   pub header : JobHeader
-  pub job : JobBuffers
+  pub job : JobSlices
   pub first : StateBuffers
   pub first-records : List Assignment
   pub loaded-so : JustLoaded j header job first first-records

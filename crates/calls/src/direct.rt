@@ -4,7 +4,8 @@ ghost use Prim.Native.Nat.{_<_};
 ghost use lib.Ieee.{binary32, ofBits};
 ghost use lib.ListN.{getD, set};
 ghost use Rattle.allocator.specs.declared.Assignment.the-variants.{Dead};
-ghost use Rattle.context.specs.Running.{lentJob, lentState};
+ghost use Rattle.job.specs.Layout.{slices};
+ghost use Rattle.context.specs.Running.{lentState};
 ghost use Rattle.calls.specs.Calling.{placeAnswer, Placed, Evicted};
 use crate::refusals::evict_refusal;
 use crate::refusals::place_refusal;
@@ -14,7 +15,16 @@ use context::carry::reg_of;
 use context::carry::take;
 use context::carry::take_back;
 use decisions::flag_of;
+use job::HINT_STARTS;
 use job::JobHeader;
+use job::SEGMENT_STARTS;
+use job::SETS;
+use job::SIZES;
+use job::TOS;
+use job::USES;
+use lent::from;
+use lent::from16;
+use lent::from32;
 
 // The record of v. A number above 511 has none.
 fn record_at(records: [Assignment; 512], v: u16) -> Assignment
@@ -63,44 +73,24 @@ fn place_answer(
     v: u16,
     reg: u8,
     weight: u32,
-    maps: &[u64],
-    class_starts: &[u16],
-    class_regs: &[u8],
-    uses: &[u64],
-    classes: &[u8],
-    sets: &[u16],
-    spills: &[f32],
-    sizes: &[u32],
-    hint_starts: &[u16],
-    hint_regs: &[u8],
-    hint_weights: &[f32],
-    segment_starts: &[u16],
-    froms: &[u32],
-    tos: &[u32],
-    values: &[u16],
+    job64: &[u64],
+    job32: &[u32],
+    job16: &[u16],
+    job8: &[u8],
+    weights: &[f32],
     ends: &[u64],
     rests: &[u64],
     queue: &[u64],
     last: &[u8],
 ) -> u64
-    ensures { λ r. ⌜ r ≡ placeAnswer header (lentJob (now (maps .entry)) (now («class_starts» .entry)) (now («class_regs» .entry)) (now (uses .entry)) (now (classes .entry)) (now (sets .entry)) (now (spills .entry)) (now (sizes .entry)) (now («hint_starts» .entry)) (now («hint_regs» .entry)) (now («hint_weights» .entry)) (now («segment_starts» .entry)) (now (froms .entry)) (now (tos .entry)) (now (values .entry))) v reg weight (lentState (now (ends .entry)) (now (rests .entry)) (now (queue .entry)) (now (last .entry))) a ⌝ }
+    ensures { λ r. ⌜ r ≡ placeAnswer header (slices (now (job64 .entry)) (now (job32 .entry)) (now (job16 .entry)) (now (job8 .entry)) (now (weights .entry))) v reg weight (lentState (now (ends .entry)) (now (rests .entry)) (now (queue .entry)) (now (last .entry))) a ⌝ }
 {
     let short = short_buffers(
-        maps.len(),
-        class_starts.len(),
-        class_regs.len(),
-        uses.len(),
-        classes.len(),
-        sets.len(),
-        spills.len(),
-        sizes.len(),
-        hint_starts.len(),
-        hint_regs.len(),
-        hint_weights.len(),
-        segment_starts.len(),
-        froms.len(),
-        tos.len(),
-        values.len(),
+        job64.len(),
+        job32.len(),
+        job16.len(),
+        job8.len(),
+        weights.len(),
         ends.len(),
         rests.len(),
         queue.len(),
@@ -114,18 +104,10 @@ fn place_answer(
         v,
         reg,
         weight,
-        maps,
-        class_starts,
-        class_regs,
-        uses,
-        classes,
-        sets,
-        hint_starts,
-        hint_regs,
-        segment_starts,
-        froms,
-        tos,
-        values,
+        job64,
+        job32,
+        job16,
+        job8,
         ends,
         rests,
     )
@@ -141,28 +123,18 @@ pub fn assign(
     v: u16,
     reg: u8,
     weight: u32,
-    maps: &[u64],
-    class_starts: &[u16],
-    class_regs: &[u8],
-    uses: &[u64],
-    classes: &[u8],
-    sets: &[u16],
-    spills: &[f32],
-    sizes: &[u32],
-    hint_starts: &[u16],
-    hint_regs: &[u8],
-    hint_weights: &[f32],
-    segment_starts: &[u16],
-    froms: &[u32],
-    tos: &[u32],
-    values: &[u16],
+    job64: &[u64],
+    job32: &[u32],
+    job16: &[u16],
+    job8: &[u8],
+    weights: &[f32],
     ends: &mut [u64],
     rests: &mut [u64],
     queue: &mut [u64],
     last: &mut [u8],
     answer: &mut u64,
 ) -> [Assignment; 512]
-    ensures { λ r. ⌜ Placed header (lentJob (now (maps .entry)) (now («class_starts» .entry)) (now («class_regs» .entry)) (now (uses .entry)) (now (classes .entry)) (now (sets .entry)) (now (spills .entry)) (now (sizes .entry)) (now («hint_starts» .entry)) (now («hint_regs» .entry)) (now («hint_weights» .entry)) (now («segment_starts» .entry)) (now (froms .entry)) (now (tos .entry)) (now (values .entry))) v reg weight (lentState (now (ends .entry)) (now (rests .entry)) (now (queue .entry)) (now (last .entry))) records (lentState (now (ends .exit)) (now (rests .exit)) (now (queue .exit)) (now (last .exit))) r (now (answer .exit)) ⌝ }
+    ensures { λ r. ⌜ Placed header (slices (now (job64 .entry)) (now (job32 .entry)) (now (job16 .entry)) (now (job8 .entry)) (now (weights .entry))) v reg weight (lentState (now (ends .entry)) (now (rests .entry)) (now (queue .entry)) (now (last .entry))) records (lentState (now (ends .exit)) (now (rests .exit)) (now (queue .exit)) (now (last .exit))) r (now (answer .exit)) ⌝ }
 {
     let a = record_at(records, v);
     let refusal = place_answer(
@@ -171,21 +143,11 @@ pub fn assign(
         v,
         reg,
         weight,
-        maps,
-        class_starts,
-        class_regs,
-        uses,
-        classes,
-        sets,
-        spills,
-        sizes,
-        hint_starts,
-        hint_regs,
-        hint_weights,
-        segment_starts,
-        froms,
-        tos,
-        values,
+        job64,
+        job32,
+        job16,
+        job8,
+        weights,
         ends,
         rests,
         queue,
@@ -198,12 +160,12 @@ pub fn assign(
     take(
         v,
         reg,
-        maps,
-        uses,
-        sets,
-        segment_starts,
-        froms,
-        tos,
+        job64,
+        from(job64, USES),
+        from16(job16, SETS),
+        from16(job16, SEGMENT_STARTS),
+        job32,
+        from32(job32, TOS),
         ends,
         rests,
         queue,
@@ -225,21 +187,11 @@ pub fn evict(
     records: [Assignment; 512],
     header: JobHeader,
     v: u16,
-    maps: &[u64],
-    class_starts: &[u16],
-    class_regs: &[u8],
-    uses: &[u64],
-    classes: &[u8],
-    sets: &[u16],
-    spills: &[f32],
-    sizes: &[u32],
-    hint_starts: &[u16],
-    hint_regs: &[u8],
-    hint_weights: &[f32],
-    segment_starts: &[u16],
-    froms: &[u32],
-    tos: &[u32],
-    values: &[u16],
+    job64: &[u64],
+    job32: &[u32],
+    job16: &[u16],
+    job8: &[u8],
+    weights: &[f32],
     ends: &mut [u64],
     rests: &mut [u64],
     queue: &mut [u64],
@@ -247,25 +199,15 @@ pub fn evict(
     answer: &mut u64,
     taken: &mut u64,
 ) -> [Assignment; 512]
-    ensures { λ r. ⌜ Evicted header (lentJob (now (maps .entry)) (now («class_starts» .entry)) (now («class_regs» .entry)) (now (uses .entry)) (now (classes .entry)) (now (sets .entry)) (now (spills .entry)) (now (sizes .entry)) (now («hint_starts» .entry)) (now («hint_regs» .entry)) (now («hint_weights» .entry)) (now («segment_starts» .entry)) (now (froms .entry)) (now (tos .entry)) (now (values .entry))) v (lentState (now (ends .entry)) (now (rests .entry)) (now (queue .entry)) (now (last .entry))) records (lentState (now (ends .exit)) (now (rests .exit)) (now (queue .exit)) (now (last .entry))) r (now (answer .exit)) (now (taken .exit)) ⌝ }
+    ensures { λ r. ⌜ Evicted header (slices (now (job64 .entry)) (now (job32 .entry)) (now (job16 .entry)) (now (job8 .entry)) (now (weights .entry))) v (lentState (now (ends .entry)) (now (rests .entry)) (now (queue .entry)) (now (last .entry))) records (lentState (now (ends .exit)) (now (rests .exit)) (now (queue .exit)) (now (last .entry))) r (now (answer .exit)) (now (taken .exit)) ⌝ }
 {
     let a = record_at(records, v);
     let short = short_buffers(
-        maps.len(),
-        class_starts.len(),
-        class_regs.len(),
-        uses.len(),
-        classes.len(),
-        sets.len(),
-        spills.len(),
-        sizes.len(),
-        hint_starts.len(),
-        hint_regs.len(),
-        hint_weights.len(),
-        segment_starts.len(),
-        froms.len(),
-        tos.len(),
-        values.len(),
+        job64.len(),
+        job32.len(),
+        job16.len(),
+        job8.len(),
+        weights.len(),
         ends.len(),
         rests.len(),
         queue.len(),
@@ -282,12 +224,12 @@ pub fn evict(
     take_back(
         v,
         reg,
-        maps,
-        uses,
-        sizes,
-        hint_starts,
-        segment_starts,
-        tos,
+        job64,
+        from(job64, USES),
+        from32(job32, SIZES),
+        from16(job16, HINT_STARTS),
+        from16(job16, SEGMENT_STARTS),
+        from32(job32, TOS),
         ends,
         rests,
         queue,

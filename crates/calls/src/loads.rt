@@ -1,8 +1,13 @@
 // Loading a stage: the job, its table, the queue and the last registers, and the records as they start out.
 ghost use mathlib.Core.Path.{_≡_};
-ghost use Rattle.context.specs.Running.{lentJob, lentState};
+ghost use Rattle.job.specs.Layout.{slices};
+ghost use Rattle.context.specs.Running.{lentState};
 ghost use Rattle.calls.specs.StageLoading.{StageLoadDone, firstRecords};
 use allocator::Assignment;
+use job::HINT_STARTS;
+use job::SIZES;
+use lent::from16;
+use lent::from32;
 use lent::pad8;
 use loader::load::JobLoaded;
 use queue::init;
@@ -21,27 +26,17 @@ pub fn first_records() -> [Assignment; 512]
 // records.
 pub fn load(
     s: &[u8],
-    maps: &mut [u64],
-    class_starts: &mut [u16],
-    class_regs: &mut [u8],
-    uses: &mut [u64],
-    classes: &mut [u8],
-    sets: &mut [u16],
-    spills: &mut [f32],
-    sizes: &mut [u32],
-    hint_starts: &mut [u16],
-    hint_regs: &mut [u8],
-    hint_weights: &mut [f32],
-    segment_starts: &mut [u16],
-    froms: &mut [u32],
-    tos: &mut [u32],
-    values: &mut [u16],
+    job64: &mut [u64],
+    job32: &mut [u32],
+    job16: &mut [u16],
+    job8: &mut [u8],
+    weights: &mut [f32],
     ends: &mut [u64],
     rests: &mut [u64],
     queue: &mut [u64],
     last: &mut [u8],
 ) -> JobLoaded
-    ensures { λ r. ⌜ StageLoadDone (now (s .entry)) (lentJob (now (maps .entry)) (now («class_starts» .entry)) (now («class_regs» .entry)) (now (uses .entry)) (now (classes .entry)) (now (sets .entry)) (now (spills .entry)) (now (sizes .entry)) (now («hint_starts» .entry)) (now («hint_regs» .entry)) (now («hint_weights» .entry)) (now («segment_starts» .entry)) (now (froms .entry)) (now (tos .entry)) (now (values .entry))) (lentState (now (ends .entry)) (now (rests .entry)) (now (queue .entry)) (now (last .entry))) (lentJob (now (maps .exit)) (now («class_starts» .exit)) (now («class_regs» .exit)) (now (uses .exit)) (now (classes .exit)) (now (sets .exit)) (now (spills .exit)) (now (sizes .exit)) (now («hint_starts» .exit)) (now («hint_regs» .exit)) (now («hint_weights» .exit)) (now («segment_starts» .exit)) (now (froms .exit)) (now (tos .exit)) (now (values .exit))) (lentState (now (ends .exit)) (now (rests .exit)) (now (queue .exit)) (now (last .exit))) r ⌝ }
+    ensures { λ r. ⌜ StageLoadDone (now (s .entry)) (slices (now (job64 .entry)) (now (job32 .entry)) (now (job16 .entry)) (now (job8 .entry)) (now (weights .entry))) (lentState (now (ends .entry)) (now (rests .entry)) (now (queue .entry)) (now (last .entry))) (slices (now (job64 .exit)) (now (job32 .exit)) (now (job16 .exit)) (now (job8 .exit)) (now (weights .exit))) (lentState (now (ends .exit)) (now (rests .exit)) (now (queue .exit)) (now (last .exit))) r ⌝ }
 {
     if queue.len() < 1024 {
         return JobLoaded::Refused(15);
@@ -49,29 +44,15 @@ pub fn load(
     if last.len() < 512 {
         return JobLoaded::Refused(15);
     }
-    match loader::load::load(
-        s,
-        maps,
-        class_starts,
-        class_regs,
-        uses,
-        classes,
-        sets,
-        spills,
-        sizes,
-        hint_starts,
-        hint_regs,
-        hint_weights,
-        segment_starts,
-        froms,
-        tos,
-        values,
-        ends,
-        rests,
-    ) {
+    match loader::load::load(s, job64, job32, job16, job8, weights, ends, rests) {
         JobLoaded::Refused(n) => JobLoaded::Refused(n),
         JobLoaded::Is(header) => {
-            init(queue, header.virt_regs, hint_starts, sizes);
+            init(
+                queue,
+                header.virt_regs,
+                from16(job16, HINT_STARTS),
+                from32(job32, SIZES),
+            );
             pad8(last, 0, 512);
             JobLoaded::Is(header)
         }

@@ -7,15 +7,28 @@ ghost use Rattle.reg_matrix.specs.Lists.{any, count};
 ghost use Rattle.reg_matrix.specs.Refusals.{refusal, shortBuffer};
 ghost use Rattle.matrix.specs.Walk.{refusalNumber as numberOf};
 ghost use Rattle.allocator.specs.Layout.{stageLimits};
-ghost use Rattle.calls.specs.Testing.{isFree, hintedAt, namedIn, unknownIn, clearAt, placeTests, evictTests};
+ghost use Rattle.job.specs.Layout.{slices};
+ghost use Rattle.calls.specs.Testing.{isFree, hintedAt, namedIn, namedTo, unknownIn, clearTo, placeTests, evictTests};
 use allocator::Assignment;
 use context::carry::is_assigned;
 use decisions::parts::of8;
 use decisions::parts::of16;
 use decisions::parts::of32;
+use job::CLASSES;
+use job::HINT_REGS;
+use job::HINT_STARTS;
+use job::SEGMENT_STARTS;
+use job::SETS;
+use job::TOS;
+use job::USES;
+use job::VALUES;
 use lent::at;
 use lent::at8;
 use lent::at16;
+use lent::from;
+use lent::from8;
+use lent::from16;
+use lent::from32;
 use order::has_reg;
 use stage::allocate::is_clear;
 
@@ -31,47 +44,27 @@ fn or_short(size: usize, limit: usize, other: bool) -> bool
 
 // Whether one of the sizes lent to a call is below its limit. They come in the limits' order, and are tested from the last.
 pub fn short_buffers(
-    regs: usize,
-    class_starts: usize,
-    class_regs: usize,
-    uses: usize,
-    classes: usize,
-    sets: usize,
-    spills: usize,
-    sizes: usize,
-    hint_starts: usize,
-    hint_regs: usize,
-    hint_weights: usize,
-    segment_starts: usize,
-    froms: usize,
-    tos: usize,
-    values: usize,
+    job64: usize,
+    job32: usize,
+    job16: usize,
+    job8: usize,
+    weights: usize,
     ends: usize,
     rests: usize,
     queue: usize,
     last: usize,
 ) -> bool
-    ensures { λ r. ⌜ r ≡ shortBuffer stageLimits (regs ∷ «class_starts» ∷ «class_regs» ∷ uses ∷ classes ∷ sets ∷ spills ∷ sizes ∷ «hint_starts» ∷ «hint_regs» ∷ «hint_weights» ∷ «segment_starts» ∷ froms ∷ tos ∷ values ∷ ends ∷ rests ∷ queue ∷ last ∷ []) ⌝ }
+    ensures { λ r. ⌜ r ≡ shortBuffer stageLimits (job64 ∷ job32 ∷ job16 ∷ job8 ∷ weights ∷ ends ∷ rests ∷ queue ∷ last ∷ []) ⌝ }
 {
     let short = or_short(last, 512, false);
     let short = or_short(queue, 1024, short);
     let short = or_short(rests, 2560, short);
     let short = or_short(ends, 2560, short);
-    let short = or_short(values, 512, short);
-    let short = or_short(tos, 512, short);
-    let short = or_short(froms, 512, short);
-    let short = or_short(segment_starts, 513, short);
-    let short = or_short(hint_weights, 1024, short);
-    let short = or_short(hint_regs, 1024, short);
-    let short = or_short(hint_starts, 513, short);
-    let short = or_short(sizes, 512, short);
-    let short = or_short(spills, 512, short);
-    let short = or_short(sets, 512, short);
-    let short = or_short(classes, 512, short);
-    let short = or_short(uses, 512, short);
-    let short = or_short(class_regs, 1024, short);
-    let short = or_short(class_starts, 17, short);
-    or_short(regs, 64, short)
+    let short = or_short(weights, 1536, short);
+    let short = or_short(job8, 2560, short);
+    let short = or_short(job16, 2067, short);
+    let short = or_short(job32, 1536, short);
+    or_short(job64, 576, short)
 }
 
 // Whether the number k is in the set and has a hint that names the register.
@@ -122,19 +115,8 @@ fn is_named(
 }
 
 // Test 8 of a placement: no such number, no such register, or one that v may not have.
-pub fn is_unknown(
-    virt_regs: u16,
-    regs: u8,
-    v: u16,
-    reg: u8,
-    class_starts: &[u16],
-    class_regs: &[u8],
-    classes: &[u8],
-    sets: &[u16],
-    hint_starts: &[u16],
-    hint_regs: &[u8],
-) -> bool
-    ensures { λ r. ⌜ r ≡ unknownIn «virt_regs» regs v reg (namedIn (now («class_starts» .entry)) (now («class_regs» .entry)) (now (classes .entry)) (now (sets .entry)) (now («hint_starts» .entry)) (now («hint_regs» .entry)) «virt_regs» v reg) ⌝ }
+pub fn is_unknown(virt_regs: u16, regs: u8, v: u16, reg: u8, job16: &[u16], job8: &[u8]) -> bool
+    ensures { λ r. ⌜ r ≡ unknownIn «virt_regs» regs v reg (namedTo (slices [] [] (now (job16 .entry)) (now (job8 .entry)) []) «virt_regs» v reg) ⌝ }
 {
     if virt_regs <= v {
         return true;
@@ -146,12 +128,12 @@ pub fn is_unknown(
         virt_regs,
         v,
         reg,
-        class_starts,
-        class_regs,
-        classes,
-        sets,
-        hint_starts,
-        hint_regs,
+        job16,
+        job8,
+        from8(job8, CLASSES),
+        from16(job16, SETS),
+        from16(job16, HINT_STARTS),
+        from8(job8, HINT_REGS),
     )
 }
 
@@ -159,26 +141,24 @@ pub fn is_unknown(
 pub fn is_clear_at(
     v: u16,
     reg: u8,
-    maps: &[u64],
-    uses: &[u64],
-    segment_starts: &[u16],
-    froms: &[u32],
-    tos: &[u32],
-    values: &[u16],
+    job64: &[u64],
+    job32: &[u32],
+    job16: &[u16],
     ends: &[u64],
     rests: &[u64],
 ) -> bool
-    ensures { λ r. ⌜ r ≡ clearAt (now (maps .entry)) (now (uses .entry)) (now («segment_starts» .entry)) (now (froms .entry)) (now (tos .entry)) (now (values .entry)) (now (ends .entry)) (now (rests .entry)) v reg ⌝ }
+    ensures { λ r. ⌜ r ≡ clearTo (slices (now (job64 .entry)) (now (job32 .entry)) (now (job16 .entry)) [] []) (now (ends .entry)) (now (rests .entry)) v reg ⌝ }
 {
-    let units = at(maps, reg as usize);
+    let units = at(job64, reg as usize);
+    let starts = from16(job16, SEGMENT_STARTS);
     is_clear(
         units,
         ends,
         rests,
-        uses,
-        of32(segment_starts, v, froms),
-        of32(segment_starts, v, tos),
-        of16(segment_starts, v, values),
+        from(job64, USES),
+        of32(starts, v, job32),
+        of32(starts, v, from32(job32, TOS)),
+        of16(starts, v, from16(job16, VALUES)),
     )
 }
 
@@ -208,38 +188,19 @@ pub fn place_refusal(
     v: u16,
     reg: u8,
     weight: u32,
-    maps: &[u64],
-    class_starts: &[u16],
-    class_regs: &[u8],
-    uses: &[u64],
-    classes: &[u8],
-    sets: &[u16],
-    hint_starts: &[u16],
-    hint_regs: &[u8],
-    segment_starts: &[u16],
-    froms: &[u32],
-    tos: &[u32],
-    values: &[u16],
+    job64: &[u64],
+    job32: &[u32],
+    job16: &[u16],
+    job8: &[u8],
     ends: &[u64],
     rests: &[u64],
 ) -> u64
-    ensures { λ r. ⌜ r ≡ numberOf (refusal (placeTests short (unknownIn «virt_regs» regs v reg (namedIn (now («class_starts» .entry)) (now («class_regs» .entry)) (now (classes .entry)) (now (sets .entry)) (now («hint_starts» .entry)) (now («hint_regs» .entry)) «virt_regs» v reg)) weight a (clearAt (now (maps .entry)) (now (uses .entry)) (now («segment_starts» .entry)) (now (froms .entry)) (now (tos .entry)) (now (values .entry)) (now (ends .entry)) (now (rests .entry)) v reg))) ⌝ }
+    ensures { λ r. ⌜ r ≡ numberOf (refusal (placeTests short (unknownIn «virt_regs» regs v reg (namedTo (slices [] [] (now (job16 .entry)) (now (job8 .entry)) []) «virt_regs» v reg)) weight a (clearTo (slices (now (job64 .entry)) (now (job32 .entry)) (now (job16 .entry)) [] []) (now (ends .entry)) (now (rests .entry)) v reg))) ⌝ }
 {
     if short {
         return 15;
     }
-    if is_unknown(
-        virt_regs,
-        regs,
-        v,
-        reg,
-        class_starts,
-        class_regs,
-        classes,
-        sets,
-        hint_starts,
-        hint_regs,
-    ) {
+    if is_unknown(virt_regs, regs, v, reg, job16, job8) {
         return 8;
     }
     if 0x7F80_0000 <= weight {
@@ -248,18 +209,7 @@ pub fn place_refusal(
     if !is_free(a) {
         return 13;
     }
-    if !is_clear_at(
-        v,
-        reg,
-        maps,
-        uses,
-        segment_starts,
-        froms,
-        tos,
-        values,
-        ends,
-        rests,
-    ) {
+    if !is_clear_at(v, reg, job64, job32, job16, ends, rests) {
         return 14;
     }
     0

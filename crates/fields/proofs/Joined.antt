@@ -2,23 +2,23 @@
 use Prim.Native.Nat.{ℕ}
 use mathlib.Core.Bool.{false}
 use lib.Dec.{leb}
-use mathlib.Core.Path.{_≡_, refl, _∙_}
-use mathlib.Core.List.{List}
+use mathlib.Core.Path.{_≡_, refl, ap, _∙_}
+use mathlib.Core.List.{List, map-id}
 use mathlib.Core.Option.{Option}
 use lib.ListN.{length, drop}
+use lib.Seq.{sets}
 use Rattle.reg_matrix.specs.Lists.{bit}
 use Rattle.reg_matrix.specs.declared.Entry.{Entry}
 use Rattle.reg_matrix.specs.declared.ValueSegment.{ValueSegment}
-use Rattle.job.specs.declared.Hint.{Hint}
 use Rattle.job.specs.declared.JobHeader.{JobHeader}
 use Rattle.job.specs.declared.Probe.{Probe}
 use Rattle.job.specs.declared.Probe.the-variants.{Over, NoProbe}
 use Rattle.job.specs.Model.{Job, VirtReg}
 use Rattle.job.specs.Parser.{Parser, Parsed, refused, parsed, andThen, done, ifBit, little}
 use Rattle.job.specs.Load.{register, class, reservation, virtRegAfter, jobFields}
-use Rattle.job.specs.Layout.{probeOf, headerOf}
-use Rattle.reader.specs.Read.{tableOf, hintsOfAll, segmentsOfAll}
-use Rattle.fields.specs.Virt.{probeField, rangeOf, TableOut}
+use Rattle.job.specs.Layout.{startsFrom, JobSlices, probeOf, headerOf}
+use Rattle.reader.specs.Read.{Stored, ClassesAt, allMembers, tableOf, segmentsOfAll}
+use Rattle.fields.specs.Virt.{probeField, rangeOf, VirtsAt, TableOut}
 use Rattle.fields.specs.Whole.{restOf, lastOf, FirstSizes, FirstOut, LastOut, JobAt, JobOut}
 use Rattle.fields.specs.declared.whole.FirstTables.{FirstTables}
 use Rattle.fields.specs.declared.whole.FirstRead.the-variants.{Is as IsFirst}
@@ -76,22 +76,21 @@ module _ {t : FirstTables} {rs : List ℕ} {cs : List (List ℕ)} {es : List Ent
 
     -- the whole answers as its last fields do
     pub job-out :
-        (s : List ℕ) (at : ℕ) {v h g : ℕ} {p : Parsed Job} (r : JobRead) {stored : Job → Type 0}
+        (s : List ℕ) (at : ℕ) {v g : ℕ} {p : Parsed Job} (r : JobRead) {stored : Job → Type 0}
         → l₁ ≡ drop at s
         → p ≡ restOf (t .map) rs cs es l
         → length vs ≡ v
-        → length (hintsOfAll vs) ≡ h
         → length (segmentsOfAll vs) ≡ g
         → ((q : Option ValueSegment) (b : ℕ) → stored (jobOf rs cs es vs q b))
-        → LastOut s at t v h g r
+        → LastOut s at t v g r
         → JobOut s p r stored
-    job-out s at (Refused n) i w a b c k o = record { parts = w ∙ rest-last ∙ rw (i, o) }
-    job-out s at (Is d y next) i w a b c k o = record {
+    job-out s at (Refused n) i w a c k o = record { parts = w ∙ rest-last ∙ rw (i, o) }
+    job-out s at (Is d y next) i w a c k o = record {
       parts = (
         jobOf rs cs es vs (rangeOf (d .probe)) (d .budget),
         w ∙ rest-last ∙ rw (i, o .0),
         o .1 ∙ header d a,
-        rw (o .2) (record { classRegs = z .classRegs; fewClassRegs = z .fewClassRegs; fixed = z .fixed; hints = b; segments = c }),
+        rw (o .2) (record { fewClassRegs = z .fewClassRegs; fixed = z .fixed; segments = c }),
         k (rangeOf (d .probe)) (d .budget),
       );
     }
@@ -102,11 +101,16 @@ module _ (s : List ℕ) (at : ℕ) {p : Parsed Job} {t : FirstTables} {rs : List
   pub virts-refused : {n : ℕ} {stored : Job → Type 0} → tableOf (bit 3 (t .map)) 2 512 (virtRegAfter (t .regs) (t .classes)) (drop at s) ≡ refused n → JobOut s p (Refused n) stored
   virts-refused e = record { parts = w .3 ∙ virts-refuse (w .4) (drop at s) e }
 
-  pub all-read :
-      (next : ℕ) {v h g : ℕ} (r : JobRead) {vs : List VirtReg → Type 0} {hs : List Hint → Type 0} {ss : List ValueSegment → Type 0}
-      → TableOut s (tableOf (bit 3 (t .map)) 2 512 (virtRegAfter (t .regs) (t .classes)) (drop at s)) (IsTable v h g next) vs hs ss
-      → LastOut s next t v h g r
-      → JobOut s p r (JobAt rs cs es vs hs ss)
-  all-read next r x o =
-      job-out (w .4) (drop at s) (x .1) s next r refl (w .3) (x .2) (x .3) (x .4)
-      (λ q b. record { regs = w .5; classes = w .6; fixed = w .7; virtRegs = x .7; hints = x .8; segments = x .9 }) o
+pub all-read :
+    (s : List ℕ) (at : ℕ) {p : Parsed Job} {t : FirstTables} {es : List Entry → Type 0} (B B′ : JobSlices) {h b : List ℕ}
+    → FirstOut s p (IsFirst t at) (λ rs. Stored (λ x. x) (B .job64) 0 rs (B′ .job64)) (ClassesAt (B .job16) (B .job8) h b) es
+    → (next : ℕ) {v n g : ℕ} (r : JobRead)
+    → TableOut s (tableOf (bit 3 (t .map)) 2 512 (virtRegAfter (t .regs) (t .classes)) (drop at s)) (IsTable v n g next)
+    (VirtsAt (B .job32) h b (B .weights) (B′ .job32) (B′ .job16) (B′ .job8) (B′ .weights))
+    → LastOut s next t v g r
+    → JobOut s p r (JobAt B B′ es)
+all-read s at B B′ w next r x o =
+    let eh = w .6 .starts .is ∙ ap (λ (l : List ℕ). sets (B .job16) 0 l) (map-id (startsFrom length 0 (w .1))) in
+    let eb = w .6 .members .is ∙ ap (λ (l : List ℕ). sets (B .job8) 0 l) (map-id (allMembers (w .1))) in
+    job-out (w .4) (drop at s) (x .1) s next r refl (w .3) (x .2) (x .4)
+    (λ q b. record { regs = w .5 .is ∙ ap (λ (l : List ℕ). sets (B .job64) 0 l) (map-id (w .0)); virtRegs = rw (eh, eb) at (x .7); reserved = w .7 }) o

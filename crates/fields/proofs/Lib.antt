@@ -1,2 +1,3 @@
-pub mod Turns
 pub mod Joined
+pub mod Slices
+pub mod Turns

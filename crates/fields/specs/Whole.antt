@@ -4,7 +4,7 @@ use mathlib.Core.Path.{_≡_}
 use mathlib.Core.List.{List}
 use mathlib.Core.Option.{Option}
 use lib.ListN.{drop, length}
-use Rattle.job.specs.declared.Hint.{Hint}
+use lib.Seq.{sets}
 use Rattle.fields.specs.declared.whole.TableSizes.{TableSizes}
 use Rattle.fields.specs.declared.whole.JobRead.{JobRead}
 use Rattle.fields.specs.declared.whole.JobRead.the-variants.{Is, Refused}
@@ -14,27 +14,24 @@ use Rattle.fields.specs.declared.whole.FirstRead.the-variants.{Is as IsF
 use Rattle.reg_matrix.specs.Lists.{bit}
 use Rattle.reg_matrix.specs.declared.Entry.{Entry}
 use Rattle.reg_matrix.specs.declared.ValueSegment.{ValueSegment}
-use Rattle.job.specs.Model.{Job, VirtReg}
+use Rattle.job.specs.Model.{Job}
 use Rattle.job.specs.Parser.{Parser, Parsed, refused, parsed, _>>=_, done, ifBit, little}
 use Rattle.job.specs.Load.{virtRegAfter}
-use Rattle.job.specs.Layout.{headerOf}
-use Rattle.reader.specs.Read.{tableOf, allMembers, hintsOfAll, segmentsOfAll}
-use Rattle.fields.specs.Virt.{probeField, rangeOf}
+use Rattle.job.specs.Layout.{startsFrom, JobSlices, headerOf}
+use Rattle.reader.specs.Read.{tableOf, allMembers, segmentsOfAll}
+use Rattle.fields.specs.Virt.{VirtsAt, probeField, rangeOf}
 
--- each table of the job is stored
-pub record JobAt (rs : List ℕ → Type 0) (cs : List (List ℕ) → Type 0) (es : List Entry → Type 0) (vs : List VirtReg → Type 0) (hs : List Hint → Type 0) (ss : List ValueSegment → Type 0) (j : Job) : Type 0 where
-  pub regs : rs (j .regs)
-  pub classes : cs (j .classes)
-  pub fixed : es (j .fixed)
-  pub virtRegs : vs (j .virtRegs)
-  pub hints : hs (hintsOfAll (j .virtRegs))
-  pub segments : ss (segmentsOfAll (j .virtRegs))
+-- every table of the job is stored: in B, which is B′ afterwards, and the fixed reservations so
+pub record JobAt (B B′ : JobSlices) (fixed : List Entry → Type 0) (j : Job) : Type 0 where
+  pub regs : B′ .job64 ≡ sets (B .job64) 0 (j .regs)
+  pub virtRegs :
+      VirtsAt (B .job32) (sets (B .job16) 0 (startsFrom length 0 (j .classes))) (sets (B .job8) 0 (allMembers (j .classes))) (B .weights)
+      (B′ .job32) (B′ .job16) (B′ .job8) (B′ .weights) (j .virtRegs)
+  pub reserved : fixed (j .fixed)
 
 pub record SizesOf (z : TableSizes) (j : Job) : Type 0 where
-  pub classRegs : length (allMembers (j .classes)) ≡ z .«class_regs»
-  pub fewClassRegs : z .«class_regs» ≤ 1024
+  pub fewClassRegs : length (allMembers (j .classes)) ≤ 1024
   pub fixed : length (j .fixed) ≡ z .fixed
-  pub hints : length (hintsOfAll (j .virtRegs)) ≡ z .hints
   pub segments : length (segmentsOfAll (j .virtRegs)) ≡ z .segments
 
 abbrev JobParts : List ℕ → Parsed Job → JobRead → (Job → Type 0) → Type 0
@@ -58,8 +55,7 @@ restOf m rs cs es = do
 pub record FirstSizes (t : FirstTables) (rs : List ℕ) (cs : List (List ℕ)) (es : List Entry) : Type 0 where
   pub regs : length rs ≡ t .regs
   pub classes : length cs ≡ t .classes
-  pub classRegs : length (allMembers cs) ≡ t .«class_regs»
-  pub fewClassRegs : t .«class_regs» ≤ 1024
+  pub fewClassRegs : length (allMembers cs) ≤ 1024
   pub fixed : length es ≡ t .fixed
 
 abbrev pub FirstOut : List ℕ → Parsed Job → FirstRead → (List ℕ → Type 0) → (List (List ℕ) → Type 0) → (List Entry → Type 0) → Type 0
@@ -76,9 +72,9 @@ lastOf m = do
   b ← ifBit (bit 5 m) 100_000 (little 4)
   done (p, b)
 
-abbrev pub LastOut : List ℕ → ℕ → FirstTables → ℕ → ℕ → ℕ → JobRead → Type 0
-LastOut s at t v h g (Refused n) = lastOf (t .map) (drop at s) ≡ refused n
-LastOut s at t v h g (Is d z next) =
+abbrev pub LastOut : List ℕ → ℕ → FirstTables → ℕ → ℕ → JobRead → Type 0
+LastOut s at t v g (Refused n) = lastOf (t .map) (drop at s) ≡ refused n
+LastOut s at t v g (Is d z next) =
     (lastOf (t .map) (drop at s) ≡ parsed (rangeOf (d .probe), d .budget) (drop next s))
     × (d ≡ record { regs = t .regs; classes = t .classes; «virt_regs» = v; probe = d .probe; budget = d .budget })
-    × (z ≡ record { «class_regs» = t .«class_regs»; fixed = t .fixed; hints = h; segments = g })
+    × (z ≡ record { fixed = t .fixed; segments = g })

@@ -2,14 +2,23 @@
 ghost use mathlib.Core.Path.{_≡_};
 ghost use mathlib.Core.Bool.{not, _&&_};
 ghost use mathlib.Core.List.{[]};
-ghost use Prim.Native.Nat.{_+_, _-_, _/_, _%_, _≤_};
+ghost use Prim.Native.Nat.{_+_, _-_, _/_, _%_, _≤_, _<_};
 ghost use lib.Dec.{eqb};
 ghost use lib.ListN.{length, drop, set};
 ghost use Rattle.job.specs.Load.{hint as hintOf, range as rangeOf, segment as segmentOf, hintCount, segmentCount, hints as hintsOf, segments as segmentsOf, spillBits, known, virtRegFields, virtRegAt, virtRegAfter};
 ghost use Rattle.job.specs.Parser.{each, ifBit, little};
-ghost use Rattle.reader.specs.Read.{Num, Outcome, Counted, HintsAt, SegmentsAt, VirtsAt, tableOf};
-ghost use Rattle.fields.specs.Virt.{hintView, segmentView, fieldsView, VirtOut, VirtsOut, FieldsAt, TableOut};
+ghost use Rattle.reader.specs.Read.{Num, Outcome, Counted, tableOf};
+ghost use Rattle.fields.specs.Virt.{hintView, segmentView, fieldsView, HintsAt, SegmentsAt, FieldsAt, VirtsAt, VirtOut, VirtsOut, TableOut};
+use job::CLASSES;
+use job::HINT_REGS;
+use job::HINT_STARTS;
+use job::HINT_WEIGHTS;
 use job::Hint;
+use job::SEGMENT_STARTS;
+use job::SETS;
+use job::SIZES;
+use job::TOS;
+use job::VALUES;
 use job::VirtRegFields;
 use lent::put_float;
 use lent::put8;
@@ -98,12 +107,11 @@ fn segments(
     start: usize,
     count: usize,
     g: usize,
-    froms: &mut [u32],
-    tos: &mut [u32],
-    values: &mut [u16],
+    job32: &mut [u32],
+    job16: &mut [u16],
 ) -> Next
     requires { ⌜ g + count ≤ 512 ⌝ }
-    ensures { λ r. ⌜ Outcome (now (s .entry)) (each segmentOf count [] (drop start (now (s .entry)))) r (SegmentsAt g (now (froms .entry)) (now (tos .entry)) (now (values .entry)) (now (froms .exit)) (now (tos .exit)) (now (values .exit))) ⌝ }
+    ensures { λ r. ⌜ Outcome (now (s .entry)) (each segmentOf count [] (drop start (now (s .entry)))) r (SegmentsAt g (now (job32 .entry)) (now (job16 .entry)) (now (job32 .exit)) (now (job16 .exit))) ⌝ }
 {
     let mut at = start;
     let mut past: u32 = 0;
@@ -114,9 +122,9 @@ fn segments(
                 return Next::Refused(n);
             }
             SegmentRead::Is(seg, next) => {
-                put32(froms, g + i, seg.from);
-                put32(tos, g + i, seg.to);
-                put16(values, g + i, seg.value);
+                put32(job32, g + i, seg.from);
+                put32(job32, TOS + g + i, seg.to);
+                put16(job16, VALUES + g + i, seg.value);
                 past = seg.to;
                 at = next;
             }
@@ -144,21 +152,14 @@ fn segment_count(s: &[u8], at: usize, earlier: u64) -> Number
 }
 
 // The segments: how many, and the position after them.
-fn segment_table(
-    s: &[u8],
-    at: usize,
-    g: u64,
-    froms: &mut [u32],
-    tos: &mut [u32],
-    values: &mut [u16],
-) -> Number
+fn segment_table(s: &[u8], at: usize, g: u64, job32: &mut [u32], job16: &mut [u16]) -> Number
     requires { ⌜ g ≤ 512 ⌝ }
-    ensures { λ r. ⌜ Counted (now (s .entry)) (segmentsOf g (drop at (now (s .entry)))) length (512 - g) r (SegmentsAt g (now (froms .entry)) (now (tos .entry)) (now (values .entry)) (now (froms .exit)) (now (tos .exit)) (now (values .exit))) ⌝ }
+    ensures { λ r. ⌜ Counted (now (s .entry)) (segmentsOf g (drop at (now (s .entry)))) length (512 - g) r (SegmentsAt g (now (job32 .entry)) (now (job16 .entry)) (now (job32 .exit)) (now (job16 .exit))) ⌝ }
 {
     match segment_count(s, at, g) {
         Number::Refused(n) => Number::Refused(n),
         Number::Is(k, at1) => {
-            match segments(s, at1, k as usize, g as usize, froms, tos, values) {
+            match segments(s, at1, k as usize, g as usize, job32, job16) {
                 Next::Refused(n) => Number::Refused(n),
                 Next::At(next) => Number::Is(k, next),
             }
@@ -218,11 +219,11 @@ fn hints(
     count: usize,
     regs: u64,
     h: usize,
-    owners: &mut [u8],
+    job8: &mut [u8],
     weights: &mut [f32],
 ) -> Next
     requires { ⌜ h + count ≤ 1024 ⌝ }
-    ensures { λ r. ⌜ Outcome (now (s .entry)) (each (λ before. hintOf regs) count [] (drop start (now (s .entry)))) r (HintsAt h (now (owners .entry)) (now (weights .entry)) (now (owners .exit)) (now (weights .exit))) ⌝ }
+    ensures { λ r. ⌜ Outcome (now (s .entry)) (each (λ before. hintOf regs) count [] (drop start (now (s .entry)))) r (HintsAt h (now (job8 .entry)) (now (weights .entry)) (now (job8 .exit)) (now (weights .exit))) ⌝ }
 {
     let mut at = start;
     let mut i = 0;
@@ -232,8 +233,8 @@ fn hints(
                 return Next::Refused(n);
             }
             HintRead::Is(x, next) => {
-                put8(owners, h + i, x.reg);
-                put_float(weights, h + i, x.weight);
+                put8(job8, HINT_REGS + h + i, x.reg);
+                put_float(weights, HINT_WEIGHTS + h + i, x.weight);
                 at = next;
             }
         }
@@ -249,17 +250,17 @@ fn hint_table(
     m: u8,
     regs: u64,
     h: u64,
-    owners: &mut [u8],
+    job8: &mut [u8],
     weights: &mut [f32],
 ) -> Number
     requires { ⌜ h ≤ 1024 ⌝ }
-    ensures { λ r. ⌜ Counted (now (s .entry)) (ifBit (eqb (m / 16 % 2) 1) [] (hintsOf regs h) (drop at (now (s .entry)))) length (1024 - h) r (HintsAt h (now (owners .entry)) (now (weights .entry)) (now (owners .exit)) (now (weights .exit))) ⌝ }
+    ensures { λ r. ⌜ Counted (now (s .entry)) (ifBit (eqb (m / 16 % 2) 1) [] (hintsOf regs h) (drop at (now (s .entry)))) length (1024 - h) r (HintsAt h (now (job8 .entry)) (now (weights .entry)) (now (job8 .exit)) (now (weights .exit))) ⌝ }
 {
     if m / 16 % 2 == 1 {
         match hint_count(s, at, h) {
             Number::Refused(n) => Number::Refused(n),
             Number::Is(k, at1) => {
-                match hints(s, at1, k as usize, regs, h as usize, owners, weights) {
+                match hints(s, at1, k as usize, regs, h as usize, job8, weights) {
                     Next::Refused(n) => Number::Refused(n),
                     Next::At(next) => Number::Is(k, next),
                 }
@@ -368,20 +369,19 @@ fn virt_reg(
     n: u16,
     h: u64,
     g: u64,
-    owners: &mut [u8],
+    job32: &mut [u32],
+    job16: &mut [u16],
+    job8: &mut [u8],
     weights: &mut [f32],
-    froms: &mut [u32],
-    tos: &mut [u32],
-    values: &mut [u16],
 ) -> VirtRead
     requires { ⌜ (classes ≤ 255) × (h ≤ 1024) × (g ≤ 512) ⌝ }
-    ensures { λ r. ⌜ VirtOut (now (s .entry)) (virtRegAt regs classes n h g (drop at (now (s .entry)))) h g r (HintsAt h (now (owners .entry)) (now (weights .entry)) (now (owners .exit)) (now (weights .exit))) (SegmentsAt g (now (froms .entry)) (now (tos .entry)) (now (values .entry)) (now (froms .exit)) (now (tos .exit)) (now (values .exit))) ⌝ }
+    ensures { λ r. ⌜ VirtOut (now (s .entry)) (virtRegAt regs classes n h g (drop at (now (s .entry)))) h g r (HintsAt h (now (job8 .entry)) (now (weights .entry)) (now (job8 .exit)) (now (weights .exit))) (SegmentsAt g (now (job32 .entry)) (now (job16 .entry)) (now (job32 .exit)) (now (job16 .exit))) ⌝ }
 {
     match virt_fields(s, at, classes, n) {
         FieldsRead::Refused(k) => VirtRead::Refused(k),
-        FieldsRead::Is(f, at1) => match hint_table(s, at1, f.map, regs, h, owners, weights) {
+        FieldsRead::Is(f, at1) => match hint_table(s, at1, f.map, regs, h, job8, weights) {
             Number::Refused(k) => VirtRead::Refused(k),
-            Number::Is(hn, at2) => match segment_table(s, at2, g, froms, tos, values) {
+            Number::Is(hn, at2) => match segment_table(s, at2, g, job32, job16) {
                 Number::Refused(k) => VirtRead::Refused(k),
                 Number::Is(gn, next) => VirtRead::Is(f, hn, gn, next),
             },
@@ -393,42 +393,35 @@ fn virt_reg(
 fn put_fields(
     f: VirtRegFields,
     i: usize,
-    kinds: &mut [u8],
-    groups: &mut [u16],
-    spills: &mut [f32],
-    sizes: &mut [u32],
+    job32: &mut [u32],
+    job16: &mut [u16],
+    job8: &mut [u8],
+    weights: &mut [f32],
 )
-    ensures { λ r. ⌜ FieldsAt f i (now (kinds .entry)) (now (groups .entry)) (now (spills .entry)) (now (sizes .entry)) (now (kinds .exit)) (now (groups .exit)) (now (spills .exit)) (now (sizes .exit)) ⌝ }
+    requires { ⌜ i < 65536 ⌝ }
+    ensures { λ r. ⌜ FieldsAt f i (now (job32 .entry)) (now (job16 .entry)) (now (job8 .entry)) (now (weights .entry)) (now (job32 .exit)) (now (job16 .exit)) (now (job8 .exit)) (now (weights .exit)) ⌝ }
 {
-    put8(kinds, i, f.class);
-    put16(groups, i, f.value_set);
-    put_float(spills, i, f.spill_weight);
-    put32(sizes, i, f.size);
+    put32(job32, SIZES + i, f.size);
+    put16(job16, SETS + i, f.value_set);
+    put8(job8, CLASSES + i, f.class);
+    put_float(weights, i, f.spill_weight);
 }
 
-// The virtual registers: their fields, where the hints and the segments of each begin and where the last end, the hints and the segments of all.
-pub fn virt_regs(
+// The virtual registers: their fields, where the hints and the segments of each end, the hints and the segments of all.
+fn virt_regs(
     s: &[u8],
     start: usize,
     count: u16,
     regs: u8,
     classes: u8,
-    kinds: &mut [u8],
-    groups: &mut [u16],
-    spills: &mut [f32],
-    sizes: &mut [u32],
-    hfirsts: &mut [u16],
-    owners: &mut [u8],
+    job32: &mut [u32],
+    job16: &mut [u16],
+    job8: &mut [u8],
     weights: &mut [f32],
-    gfirsts: &mut [u16],
-    froms: &mut [u32],
-    tos: &mut [u32],
-    values: &mut [u16],
 ) -> VirtsRead
-    ensures { λ r. ⌜ VirtsOut (now (s .entry)) (each (virtRegAfter regs classes) count [] (drop start (now (s .entry)))) r (VirtsAt (now (kinds .entry)) (now (groups .entry)) (now (spills .entry)) (now (sizes .entry)) (now (hfirsts .entry)) (now (gfirsts .entry)) (now (kinds .exit)) (now (groups .exit)) (now (spills .exit)) (now (sizes .exit)) (now (hfirsts .exit)) (now (gfirsts .exit))) (HintsAt 0 (now (owners .entry)) (now (weights .entry)) (now (owners .exit)) (now (weights .exit))) (SegmentsAt 0 (now (froms .entry)) (now (tos .entry)) (now (values .entry)) (now (froms .exit)) (now (tos .exit)) (now (values .exit))) ⌝ }
+    requires { ⌜ count ≤ 512 ⌝ }
+    ensures { λ r. ⌜ VirtsOut (now (s .entry)) (each (virtRegAfter regs classes) count [] (drop start (now (s .entry)))) r (VirtsAt (now (job32 .entry)) (now (job16 .entry)) (now (job8 .entry)) (now (weights .entry)) (now (job32 .exit)) (now (job16 .exit)) (now (job8 .exit)) (now (weights .exit))) ⌝ }
 {
-    put16(hfirsts, 0, 0);
-    put16(gfirsts, 0, 0);
     let mut at = start;
     let mut h: u64 = 0;
     let mut g: u64 = 0;
@@ -442,21 +435,20 @@ pub fn virt_regs(
             i as u16,
             h,
             g,
-            owners,
+            job32,
+            job16,
+            job8,
             weights,
-            froms,
-            tos,
-            values,
         ) {
             VirtRead::Refused(n) => {
                 return VirtsRead::Refused(n);
             }
             VirtRead::Is(f, hn, gn, next) => {
-                put_fields(f, i, kinds, groups, spills, sizes);
+                put_fields(f, i, job32, job16, job8, weights);
                 h = h + hn;
                 g = g + gn;
-                put16(hfirsts, i + 1, h as u16);
-                put16(gfirsts, i + 1, g as u16);
+                put16(job16, HINT_STARTS + 1 + i, h as u16);
+                put16(job16, SEGMENT_STARTS + 1 + i, g as u16);
                 at = next;
             }
         }
@@ -478,19 +470,12 @@ pub fn virt_table(
     stands: bool,
     regs: u8,
     classes: u8,
-    kinds: &mut [u8],
-    groups: &mut [u16],
-    spills: &mut [f32],
-    sizes: &mut [u32],
-    hfirsts: &mut [u16],
-    owners: &mut [u8],
+    job32: &mut [u32],
+    job16: &mut [u16],
+    job8: &mut [u8],
     weights: &mut [f32],
-    gfirsts: &mut [u16],
-    froms: &mut [u32],
-    tos: &mut [u32],
-    values: &mut [u16],
 ) -> VirtTable
-    ensures { λ r. ⌜ TableOut (now (s .entry)) (tableOf stands 2 512 (virtRegAfter regs classes) (drop at (now (s .entry)))) r (VirtsAt (now (kinds .entry)) (now (groups .entry)) (now (spills .entry)) (now (sizes .entry)) (now (hfirsts .entry)) (now (gfirsts .entry)) (now (kinds .exit)) (now (groups .exit)) (now (spills .exit)) (now (sizes .exit)) (now (hfirsts .exit)) (now (gfirsts .exit))) (HintsAt 0 (now (owners .entry)) (now (weights .entry)) (now (owners .exit)) (now (weights .exit))) (SegmentsAt 0 (now (froms .entry)) (now (tos .entry)) (now (values .entry)) (now (froms .exit)) (now (tos .exit)) (now (values .exit))) ⌝ }
+    ensures { λ r. ⌜ TableOut (now (s .entry)) (tableOf stands 2 512 (virtRegAfter regs classes) (drop at (now (s .entry)))) r (VirtsAt (now (job32 .entry)) (now (job16 .entry)) (now (job8 .entry)) (now (weights .entry)) (now (job32 .exit)) (now (job16 .exit)) (now (job8 .exit)) (now (weights .exit))) ⌝ }
 {
     match count16(s, at, stands, 512) {
         Number::Refused(n) => VirtTable::Refused(n),
@@ -500,17 +485,10 @@ pub fn virt_table(
             k as u16,
             regs,
             classes,
-            kinds,
-            groups,
-            spills,
-            sizes,
-            hfirsts,
-            owners,
+            job32,
+            job16,
+            job8,
             weights,
-            gfirsts,
-            froms,
-            tos,
-            values,
         ) {
             VirtsRead::Refused(n) => VirtTable::Refused(n),
             VirtsRead::Is(h, g, next) => VirtTable::Is(k as u16, h, g, next),

@@ -1,8 +1,9 @@
 // All fields of a job, in byte order.
 ghost use mathlib.Core.Path.{_≡_};
 ghost use lib.ListN.{drop};
+ghost use Rattle.job.specs.Layout.{slices};
 ghost use Rattle.job.specs.Load.{jobFields};
-ghost use Rattle.reader.specs.Read.{Stored, ClassesAt, FixedAt, VirtsAt, HintsAt, SegmentsAt};
+ghost use Rattle.reader.specs.Read.{Stored, ClassesAt, FixedAt};
 ghost use Rattle.fields.specs.Virt.{probeView, probeField};
 ghost use Rattle.fields.specs.Whole.{FirstOut, LastOut, JobOut, JobAt};
 use crate::virt::VirtTable;
@@ -25,11 +26,9 @@ pub enum ProbeRead {
     Refused(u8),
 }
 
-// How many numbers the tables of a job take that the header does not count.
+// How many fixed reservations and segments a job has, which the header does not count.
 pub struct TableSizes {
-    pub class_regs: usize,
     pub fixed: usize,
-    pub hints: usize,
     pub segments: usize,
 }
 
@@ -65,12 +64,11 @@ fn probe_range(s: &[u8], at: usize, stands: bool) -> ProbeRead
     }
 }
 
-// The header's map, and how many registers, classes, registers of classes and fixed reservations there are.
+// The header's map, and how many registers, classes and fixed reservations there are.
 pub struct FirstTables {
     pub map: u8,
     pub regs: u8,
     pub classes: u8,
-    pub class_regs: usize,
     pub fixed: usize,
 }
 
@@ -83,15 +81,15 @@ pub enum FirstRead {
 // The tables before the virtual registers, stored from place 0 on: a fixed reservation as unit, start, end and use number.
 fn first_tables(
     s: &[u8],
-    regs: &mut [u64],
-    cfirsts: &mut [u16],
-    members: &mut [u8],
+    job64: &mut [u64],
+    job16: &mut [u16],
+    job8: &mut [u8],
     units: &mut [u8],
     starts: &mut [u32],
     stops: &mut [u32],
     uses: &mut [u32],
 ) -> FirstRead
-    ensures { λ r. ⌜ FirstOut (now (s .entry)) (jobFields (now (s .entry))) r (λ rs. Stored (λ x. x) (now (regs .entry)) 0 rs (now (regs .exit))) (ClassesAt (now (cfirsts .entry)) (now (members .entry)) (now (cfirsts .exit)) (now (members .exit))) (FixedAt (now (units .entry)) (now (starts .entry)) (now (stops .entry)) (now (uses .entry)) (now (units .exit)) (now (starts .exit)) (now (stops .exit)) (now (uses .exit))) ⌝ }
+    ensures { λ r. ⌜ FirstOut (now (s .entry)) (jobFields (now (s .entry))) r (λ rs. Stored (λ x. x) (now (job64 .entry)) 0 rs (now (job64 .exit))) (ClassesAt (now (job16 .entry)) (now (job8 .entry)) (now (job16 .exit)) (now (job8 .exit))) (FixedAt (now (units .entry)) (now (starts .entry)) (now (stops .entry)) (now (uses .entry)) (now (units .exit)) (now (starts .exit)) (now (stops .exit)) (now (uses .exit))) ⌝ }
 {
     let Read::Value(m, at1) = byte(s, 0) else {
         return FirstRead::Refused(1);
@@ -99,12 +97,12 @@ fn first_tables(
     if 64 <= m {
         return FirstRead::Refused(3);
     }
-    match reg_table(s, at1, m / 1 % 2 == 1, regs) {
+    match reg_table(s, at1, m / 1 % 2 == 1, job64) {
         Number::Refused(n) => FirstRead::Refused(n),
         Number::Is(rn, at2) => {
-            match class_table(s, at2, m / 2 % 2 == 1, rn as u8, cfirsts, members) {
+            match class_table(s, at2, m / 2 % 2 == 1, rn as u8, job16, job8) {
                 ClassesRead::Refused(n) => FirstRead::Refused(n),
-                ClassesRead::Is(cn, mn, at3) => {
+                ClassesRead::Is(cn, _, at3) => {
                     match fixed_table(s, at3, m / 4 % 2 == 1, units, starts, stops, uses) {
                         Number::Refused(n) => FirstRead::Refused(n),
                         Number::Is(en, next) => FirstRead::Is(
@@ -112,7 +110,6 @@ fn first_tables(
                                 map: m as u8,
                                 regs: rn as u8,
                                 classes: cn,
-                                class_regs: mn as usize,
                                 fixed: en as usize,
                             },
                             next,
@@ -125,8 +122,8 @@ fn first_tables(
 }
 
 // The probe range and the budget, and with them what goes by value of the job.
-fn last_fields(s: &[u8], at: usize, t: FirstTables, vn: u16, hn: u64, gn: u64) -> JobRead
-    ensures { λ r. ⌜ LastOut (now (s .entry)) at t vn hn gn r ⌝ }
+fn last_fields(s: &[u8], at: usize, t: FirstTables, vn: u16, gn: u64) -> JobRead
+    ensures { λ r. ⌜ LastOut (now (s .entry)) at t vn gn r ⌝ }
 {
     match probe_range(s, at, t.map / 16 % 2 == 1) {
         ProbeRead::Refused(n) => JobRead::Refused(n),
@@ -143,9 +140,7 @@ fn last_fields(s: &[u8], at: usize, t: FirstTables, vn: u16, hn: u64, gn: u64) -
                     budget: b as u32,
                 },
                 TableSizes {
-                    class_regs: t.class_regs,
                     fixed: t.fixed,
-                    hints: hn as usize,
                     segments: gn as usize,
                 },
                 next,
@@ -154,31 +149,23 @@ fn last_fields(s: &[u8], at: usize, t: FirstTables, vn: u16, hn: u64, gn: u64) -
     }
 }
 
-// All fields of a job, each table stored from place 0 on, where there is room.
+// All fields of a job. What it holds is stored in its slices, where there is room, and the fixed reservations in four slices of their own: unit, start,
+// end and use number.
 pub fn job_fields(
     s: &[u8],
-    regs: &mut [u64],
-    cfirsts: &mut [u16],
-    members: &mut [u8],
+    job64: &mut [u64],
+    job32: &mut [u32],
+    job16: &mut [u16],
+    job8: &mut [u8],
+    weights: &mut [f32],
     units: &mut [u8],
     starts: &mut [u32],
     stops: &mut [u32],
     uses: &mut [u32],
-    kinds: &mut [u8],
-    groups: &mut [u16],
-    spills: &mut [f32],
-    sizes: &mut [u32],
-    hfirsts: &mut [u16],
-    owners: &mut [u8],
-    weights: &mut [f32],
-    gfirsts: &mut [u16],
-    froms: &mut [u32],
-    tos: &mut [u32],
-    values: &mut [u16],
 ) -> JobRead
-    ensures { λ r. ⌜ JobOut (now (s .entry)) (jobFields (now (s .entry))) r (JobAt (λ rs. Stored (λ x. x) (now (regs .entry)) 0 rs (now (regs .exit))) (ClassesAt (now (cfirsts .entry)) (now (members .entry)) (now (cfirsts .exit)) (now (members .exit))) (FixedAt (now (units .entry)) (now (starts .entry)) (now (stops .entry)) (now (uses .entry)) (now (units .exit)) (now (starts .exit)) (now (stops .exit)) (now (uses .exit))) (VirtsAt (now (kinds .entry)) (now (groups .entry)) (now (spills .entry)) (now (sizes .entry)) (now (hfirsts .entry)) (now (gfirsts .entry)) (now (kinds .exit)) (now (groups .exit)) (now (spills .exit)) (now (sizes .exit)) (now (hfirsts .exit)) (now (gfirsts .exit))) (HintsAt 0 (now (owners .entry)) (now (weights .entry)) (now (owners .exit)) (now (weights .exit))) (SegmentsAt 0 (now (froms .entry)) (now (tos .entry)) (now (values .entry)) (now (froms .exit)) (now (tos .exit)) (now (values .exit)))) ⌝ }
+    ensures { λ r. ⌜ JobOut (now (s .entry)) (jobFields (now (s .entry))) r (JobAt (slices (now (job64 .entry)) (now (job32 .entry)) (now (job16 .entry)) (now (job8 .entry)) (now (weights .entry))) (slices (now (job64 .exit)) (now (job32 .exit)) (now (job16 .exit)) (now (job8 .exit)) (now (weights .exit))) (FixedAt (now (units .entry)) (now (starts .entry)) (now (stops .entry)) (now (uses .entry)) (now (units .exit)) (now (starts .exit)) (now (stops .exit)) (now (uses .exit)))) ⌝ }
 {
-    match first_tables(s, regs, cfirsts, members, units, starts, stops, uses) {
+    match first_tables(s, job64, job16, job8, units, starts, stops, uses) {
         FirstRead::Refused(n) => JobRead::Refused(n),
         FirstRead::Is(t, at) => match virt_table(
             s,
@@ -186,20 +173,13 @@ pub fn job_fields(
             t.map / 8 % 2 == 1,
             t.regs,
             t.classes,
-            kinds,
-            groups,
-            spills,
-            sizes,
-            hfirsts,
-            owners,
+            job32,
+            job16,
+            job8,
             weights,
-            gfirsts,
-            froms,
-            tos,
-            values,
         ) {
             VirtTable::Refused(n) => JobRead::Refused(n),
-            VirtTable::Is(vn, hn, gn, next) => last_fields(s, next, t, vn, hn, gn),
+            VirtTable::Is(vn, _, gn, next) => last_fields(s, next, t, vn, gn),
         },
     }
 }

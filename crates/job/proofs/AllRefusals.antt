@@ -124,13 +124,13 @@ rows =
     -- none is lent
     lending [] ("00" ∷ []) [] 15 ∷
     -- the last is missing
-    lending (take 16 loadLimits) ("00" ∷ []) [] 15 ∷
+    lending (take 6 loadLimits) ("00" ∷ []) [] 15 ∷
     -- 15 before 4: the job is too long
     lending (oneLess 0) ("00" ∷ []) (replicate 32_768 0) 15 ∷
     -- 15 before any field: before 1
     lending (oneLess 0) [] [] 15 ∷
     -- 15 before any field: before 3
-    lending (oneLess 16) ("40" ∷ []) [] 15 ∷
+    lending (oneLess 6) ("40" ∷ []) [] 15 ∷
     -- ---- 4: the length of the job
     -- 32,768 bytes: what follows the header is read
     long "" (replicate 32_768 0) 2 ∷

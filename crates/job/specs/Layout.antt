@@ -1,10 +1,11 @@
--- How a loaded job stands in lent numbers (document 01, "The job", "Limits"): one buffer for each field, the virtual registers' by number. What is
--- past the last is zero, but for the fixed uses (see reg_matrix). A longer buffer keeps its tail. Assumes nothing.
+-- How a loaded job stands in lent numbers (document 01, "The job", "Limits"): a list for each field, the virtual registers' by number, at its limit's
+-- size; and one slice for each kind of number, with the lists of that kind one after another. What is past a list's last is zero, but for the fixed uses
+-- (see reg_matrix). A longer slice keeps its tail. Assumes nothing.
 use Prim.Native.Nat.{ℕ, _+_}
 use mathlib.Core.List.{List, [], _∷_, _++_, map}
 use mathlib.Core.Option.{Option, none, some}
 use lib.Ieee.{Float}
-use lib.ListN.{length}
+use lib.ListN.{length, drop}
 use Rattle.reg_matrix.specs.Lists.{concatMap, padded}
 use Rattle.reg_matrix.specs.Layout.{useWords, maxFixed}
 use Rattle.reg_matrix.specs.Questions.{tableLimits}
@@ -21,7 +22,7 @@ module _ {A : Type 0} where
   startsFrom size at [] = at ∷ []
   startsFrom size at (x ∷ xs) = at ∷ startsFrom size (at + size x) xs
 
--- layout: 01, "The job", a buffer for each field
+-- layout: 01, "The job", a list for each field
 pub record JobBuffers : Type 0 where
   pub regs : List ℕ
   pub classStarts : List ℕ
@@ -39,14 +40,6 @@ pub record JobBuffers : Type 0 where
   pub tos : List ℕ
   pub values : List ℕ
 
--- layout: 01, "Limits": the buffers' sizes, in that order
-abbrev pub jobLimits : List ℕ
-jobLimits = 64 ∷ 17 ∷ 1024 ∷ maxFixed ∷ 512 ∷ 512 ∷ 512 ∷ 512 ∷ 513 ∷ 1024 ∷ 1024 ∷ 513 ∷ 512 ∷ 512 ∷ 512 ∷ []
-
--- layout: 01, "Limits": what loading a job is lent, these and the table
-abbrev pub loadLimits : List ℕ
-loadLimits = jobLimits ++ tableLimits
-
 -- layout: the hints of all virtual registers, by number
 abbrev pub allHints : Job → List Hint
 allHints j = concatMap (λ v. v .hints) (j .virtRegs)
@@ -55,7 +48,7 @@ allHints j = concatMap (λ v. v .hints) (j .virtRegs)
 abbrev pub allSegments : Job → List ValueSegment
 allSegments j = concatMap (λ v. v .segments) (j .virtRegs)
 
--- layout: the content of each buffer
+-- layout: the content of each list
 unfoldable pub jobBuffers : Job → JobBuffers
 jobBuffers j =
     record {
@@ -74,6 +67,61 @@ jobBuffers j =
       froms = padded 512 0 (map (λ (s : ValueSegment). s .from) (allSegments j));
       tos = padded 512 0 (map (λ (s : ValueSegment). s .to) (allSegments j));
       values = padded 512 0 (map (λ (s : ValueSegment). s .value) (allSegments j));
+    }
+
+-- ---- the slices
+
+-- layout: what is lent for a job, one slice for each kind of number: 64, 32, 16 and 8 bits, and weights
+pub record JobSlices : Type 0 where
+  pub job64 : List ℕ
+  pub job32 : List ℕ
+  pub job16 : List ℕ
+  pub job8 : List ℕ
+  pub weights : List Float
+
+-- layout: the five of them
+abbrev pub slices : List ℕ → List ℕ → List ℕ → List ℕ → List Float → JobSlices
+slices job64 job32 job16 job8 weights = record { job64 = job64; job32 = job32; job16 = job16; job8 = job8; weights = weights }
+
+-- layout: 01, "Limits": the slices' sizes, in that order: those of their lists together
+abbrev pub jobLimits : List ℕ
+jobLimits = 576 ∷ 1536 ∷ 2067 ∷ 2560 ∷ 1536 ∷ []
+
+-- layout: 01, "Limits": what loading a job is lent, these and the table
+abbrev pub loadLimits : List ℕ
+loadLimits = jobLimits ++ tableLimits
+
+-- layout: the content of each slice: first the lists that the tests of a whole job ask for
+unfoldable pub jobSlices : Job → JobSlices
+jobSlices j =
+    let b = jobBuffers j in
+    record {
+      job64 = b .regs ++ b .fixedUses;
+      job32 = b .froms ++ b .tos ++ b .sizes;
+      job16 = b .classStarts ++ b .valueSets ++ b .values ++ b .hintStarts ++ b .segmentStarts;
+      job8 = b .classRegs ++ b .classes ++ b .hintRegs;
+      weights = b .spillWeights ++ b .hintWeights;
+    }
+
+-- layout: where each list begins, with all that stands behind it
+abbrev pub listsIn : JobSlices → JobBuffers
+listsIn B =
+    record {
+      regs = B .job64;
+      classStarts = B .job16;
+      classRegs = B .job8;
+      fixedUses = drop 64 (B .job64);
+      classes = drop 1024 (B .job8);
+      valueSets = drop 17 (B .job16);
+      spillWeights = B .weights;
+      sizes = drop 1024 (B .job32);
+      hintStarts = drop 1041 (B .job16);
+      hintRegs = drop 1536 (B .job8);
+      hintWeights = drop 512 (B .weights);
+      segmentStarts = drop 1554 (B .job16);
+      froms = B .job32;
+      tos = drop 512 (B .job32);
+      values = drop 529 (B .job16);
     }
 
 -- ---- what goes by value

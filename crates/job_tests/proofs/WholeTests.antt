@@ -20,7 +20,9 @@ use Rattle.reg_matrix.specs.declared.Reservation.{Reservation}
 use Rattle.reg_matrix.specs.declared.Reservation.the-variants.{Held, FixedUse, FixedDef}
 use Rattle.job.specs.Model.{VirtReg, noVirtReg, Job}
 use Rattle.job.specs.Load.{twin, mixedSet, cutUse, cuts, useOfValue}
-use Rattle.reader.specs.Read.{Stored, ClassesAt, allMembers, FixedAt, SegmentsAt, useNumber, segmentsOfAll}
+use Rattle.job.specs.Layout.{startsFrom}
+use Rattle.lent.specs.Parts.{Begins}
+use Rattle.reader.specs.Read.{Stored, allMembers, FixedAt, useNumber, segmentsOfAll}
 use Rattle.job_tests.specs.Tests.{equalAt, memberTwice, classesDiffer, crosses, crossesAt}
 use Rattle.lent.proofs.Laws.{any-default}
 use Rattle.job_tests.proofs.Places.{anys-at, pairs-at, pair-at}
@@ -28,30 +30,38 @@ use Rattle.job.proofs.Units.{same-self}
 use Rattle.job.proofs.Lists.{starts-length}
 use Rattle.reader.proofs.Starts.{start-is, next-start, item-at, item-below}
 
--- what stands at a place of a slice with room
-module _ {A B : Type 0} {f : A → B} where
-  pub stored-at : {b b′ : List B} {xs : List A} → Stored f b 0 xs b′ → length xs ≤ length b → (d : A) (e : B) (i : ℕ) → i < length xs → getD b′ i e ≡ f (getD xs i d)
-  stored-at {b} {xs} h l d e i k =
+-- what stands at a place of a list that begins so, and of a slice with room
+module _ {A B : Type 0} where
+  begins-at : (f : A → B) (xs : List A) {ys : List B} → Begins (map f xs) ys → (d : A) (e : B) (i : ℕ) → i < length xs → getD ys i e ≡ f (getD xs i d)
+  begins-at f xs b d e i k =
       let n : length (map f xs) ≡ length xs = simp length-map in
       let m : i < length (map f xs) = omega arith in
-      ap (λ (z : List B). getD z i e) (h .is ∙ sets-eq (map f xs) b 0 (omega arith))
-      ∙ List·getD-append (map f xs) (drop (0 + length (map f xs)) b) e i m
-      ∙ any-default (map f xs) i e (f d) m
-      ∙ List·getD-map f xs i d
+      ap (λ (z : List B). getD z i e) (b .1) ∙ List·getD-append (map f xs) (b .0) e i m ∙ any-default (map f xs) i e (f d) m ∙ List·getD-map f xs i d
+
+  pub stored-at : {f : A → B} {b b′ : List B} {xs : List A} → Stored f b 0 xs b′ → length xs ≤ length b → (d : A) (e : B) (i : ℕ) → i < length xs → getD b′ i e ≡ f (getD xs i d)
+  stored-at {f} {b} {xs} h l =
+      let n : length (map f xs) ≡ length xs = simp length-map in
+      begins-at f xs (drop (0 + length (map f xs)) b, h .is ∙ sets-eq (map f xs) b 0 (omega arith))
+
+front-at : (xs : List ℕ) {ys : List ℕ} → Begins xs ys → (i : ℕ) → i < length xs → getD ys i 0 ≡ getD xs i 0
+front-at xs b i h = ap (λ (z : List ℕ). getD z i 0) (b .1) ∙ List·getD-append xs (b .0) 0 i h
 
 -- ---- 11
 
 pub mixed-is :
-    (j : Job) {b c b′ c′ : List ℕ}
-    → Stored (λ (v : VirtReg). v .class) b 0 (j .virtRegs) b′
-    → Stored (λ (v : VirtReg). v .valueSet) c 0 (j .virtRegs) c′
-    → length (j .virtRegs) ≤ length b
-    → length (j .virtRegs) ≤ length c
-    → anyPair (classesDiffer b′ c′) (count 0 (length (j .virtRegs))) ≡ mixedSet j
+    (j : Job) {b c : List ℕ}
+    → Begins (map (λ (v : VirtReg). v .class) (j .virtRegs)) b
+    → Begins (map (λ (v : VirtReg). v .valueSet) (j .virtRegs)) c
+    → anyPair (classesDiffer b c) (count 0 (length (j .virtRegs))) ≡ mixedSet j
 unfolding mixedSet
-mixed-is j h g l m =
+mixed-is j h g =
     pairs-at noVirtReg _ _ (j .virtRegs) (λ i k a b.
-    rw (stored-at h l noVirtReg 0 i a, stored-at h l noVirtReg 0 k b, stored-at g m noVirtReg 0 i a, stored-at g m noVirtReg 0 k b))
+    rw (
+      begins-at (λ (v : VirtReg). v .class) (j .virtRegs) h noVirtReg 0 i a,
+      begins-at (λ (v : VirtReg). v .class) (j .virtRegs) h noVirtReg 0 k b,
+      begins-at (λ (v : VirtReg). v .valueSet) (j .virtRegs) g noVirtReg 0 i a,
+      begins-at (λ (v : VirtReg). v .valueSet) (j .virtRegs) g noVirtReg 0 k b,
+    ))
 
 -- ---- 12
 
@@ -98,16 +108,19 @@ module _ (j : Job) {n f t u n′ f′ t′ u′ : List ℕ} (h : FixedAt n f t u
       rw (stored-at (h .froms) a noEntry 0 k l, stored-at (h .tos) b noEntry 0 k l, stored-at (h .uses) c noEntry 0 k l) (crossed s (getD (j .fixed) k noEntry)))
 
   pub cut-is :
-      {x y z x′ y′ z′ : List ℕ}
-      → SegmentsAt 0 x y z x′ y′ z′ (segmentsOfAll (j .virtRegs))
-      → length (segmentsOfAll (j .virtRegs)) ≤ length x
-      → length (segmentsOfAll (j .virtRegs)) ≤ length y
-      → length (segmentsOfAll (j .virtRegs)) ≤ length z
-      → any (crossesAt x′ y′ z′ f′ t′ u′ (length (j .fixed))) (count 0 (length (segmentsOfAll (j .virtRegs)))) ≡ cutUse j
+      {x y z : List ℕ}
+      → Begins (map (λ (x : ValueSegment). x .from) (segmentsOfAll (j .virtRegs))) x
+      → Begins (map (λ (x : ValueSegment). x .to) (segmentsOfAll (j .virtRegs))) y
+      → Begins (map (λ (x : ValueSegment). x .value) (segmentsOfAll (j .virtRegs))) z
+      → any (crossesAt x y z f′ t′ u′ (length (j .fixed))) (count 0 (length (segmentsOfAll (j .virtRegs)))) ≡ cutUse j
   unfolding cutUse
-  cut-is g k l m =
+  cut-is k l m =
       anys-at noSegment (λ s. any (cuts s) (j .fixed)) _ (segmentsOfAll (j .virtRegs)) (λ i w.
-      rw (stored-at (g .froms) k noSegment 0 i w, stored-at (g .tos) l noSegment 0 i w, stored-at (g .values) m noSegment 0 i w) (crossed-one (getD (segmentsOfAll (j .virtRegs)) i noSegment)))
+      rw (
+        begins-at (λ (x : ValueSegment). x .from) (segmentsOfAll (j .virtRegs)) k noSegment 0 i w,
+        begins-at (λ (x : ValueSegment). x .to) (segmentsOfAll (j .virtRegs)) l noSegment 0 i w,
+        begins-at (λ (x : ValueSegment). x .value) (segmentsOfAll (j .virtRegs)) m noSegment 0 i w,
+      ) (crossed-one (getD (segmentsOfAll (j .virtRegs)) i noSegment)))
       ∙ any-concat (λ s. any (cuts s) (j .fixed)) (λ (v : VirtReg). v .segments) (j .virtRegs)
 
 -- ---- 10
@@ -149,39 +162,37 @@ units-test m n a b =
     eqb-in (bits-same 64 m n a b (λ u l.
     same-test (bit u m) (bit u n) (λ z. unitsOf-out n u (subst (λ (x : List ℕ). u ∈ x) e (unitsOf-in m u l z)) .0) (λ z. unitsOf-out m u (subst (λ (x : List ℕ). u ∈ x) (sym e) (unitsOf-in n u l z)) .0))))
 
-module _ (j : Job) {b b′ : List ℕ} (h : Stored (λ (x : ℕ). x) b 0 (j .regs) b′) (l : length (j .regs) ≤ length b) (small : (m : ℕ) → m ∈ j .regs → m < 2 ^ 64) where
-  pub maps-are : anyPair (equalAt b′) (count 0 (length (j .regs))) ≡ anyPair (λ m n. same (unitsOf m) (unitsOf n)) (j .regs)
+module _ (j : Job) {b : List ℕ} (h : Begins (j .regs) b) (small : (m : ℕ) → m ∈ j .regs → m < 2 ^ 64) where
+  pub maps-are : anyPair (equalAt b) (count 0 (length (j .regs))) ≡ anyPair (λ m n. same (unitsOf m) (unitsOf n)) (j .regs)
   maps-are =
       pairs-at 0 _ _ (j .regs) (λ i k p q.
-      rw (stored-at h l 0 0 i p, stored-at h l 0 0 k q) (units-test (getD (j .regs) i 0) (getD (j .regs) k 0) (small (getD (j .regs) i 0) (getD-in (j .regs) i 0 p)) (small (getD (j .regs) k 0) (getD-in (j .regs) k 0 q))))
+      rw (front-at (j .regs) h i p, front-at (j .regs) h k q) (units-test (getD (j .regs) i 0) (getD (j .regs) k 0) (small (getD (j .regs) i 0) (getD-in (j .regs) i 0 p)) (small (getD (j .regs) k 0) (getD-in (j .regs) k 0 q))))
 
-module _ (cs : List (List ℕ)) {b m b′ m′ : List ℕ} (h : ClassesAt b m b′ m′ cs) (l : length cs < length b) (k : length (allMembers cs) ≤ length m) where
-  start-at : (c : ℕ) → c ≤ length cs → getD b′ c 0 ≡ length (allMembers (take c cs))
+module _ (cs : List (List ℕ)) {b m : List ℕ} (h : Begins (startsFrom length 0 cs) b) (l : Begins (allMembers cs) m) where
+  start-at : (c : ℕ) → c ≤ length cs → getD b c 0 ≡ length (allMembers (take c cs))
   start-at c p =
       let n = starts-length (length {A = ℕ}) 0 cs in
       let z : 0 + length (allMembers (take c cs)) ≡ length (allMembers (take c cs)) = omega arith in
-      stored-at (h .starts) (omega arith) 0 0 c (omega arith) ∙ start-is (λ (c : List ℕ). c) 0 cs c p ∙ z
+      front-at (startsFrom length 0 cs) h c (omega arith) ∙ start-is (λ (c : List ℕ). c) 0 cs c p ∙ z
 
-  member-at : (c i : ℕ) → c < length cs → i < length (getD cs c []) → getD m′ (length (allMembers (take c cs)) + i) 0 ≡ getD (getD cs c []) i 0
+  member-at : (c i : ℕ) → c < length cs → i < length (getD cs c []) → getD m (length (allMembers (take c cs)) + i) 0 ≡ getD (getD cs c []) i 0
   member-at c i p q =
-      stored-at (h .members) k 0 0 (length (allMembers (take c cs)) + i) (item-below (λ (c : List ℕ). c) cs c i [] p q) ∙ item-at (λ (c : List ℕ). c) cs c i [] 0 p q
+      front-at (allMembers cs) l (length (allMembers (take c cs)) + i) (item-below (λ (c : List ℕ). c) cs c i [] p q) ∙ item-at (λ (c : List ℕ). c) cs c i [] 0 p q
 
-  pub members-are : any (memberTwice b′ m′) (count 0 (length cs)) ≡ any (anyPair eqb) cs
+  pub members-are : any (memberTwice b m) (count 0 (length cs)) ≡ any (anyPair eqb) cs
   members-are =
       anys-at [] (anyPair eqb) _ cs (λ c p.
-      let s : getD b′ c 0 ≡ length (allMembers (take c cs)) = start-at c (omega arith) in
-      let e : getD b′ (c + 1) 0 ≡ length (allMembers (take c cs)) + length (getD cs c []) = rw (add-one c) (start-at (suc c) (omega arith) ∙ next-start (λ (c : List ℕ). c) cs c [] p) in
+      let s : getD b c 0 ≡ length (allMembers (take c cs)) = start-at c (omega arith) in
+      let e : getD b (c + 1) 0 ≡ length (allMembers (take c cs)) + length (getD cs c []) = rw (add-one c) (start-at (suc c) (omega arith) ∙ next-start (λ (c : List ℕ). c) cs c [] p) in
       let n : length (allMembers (take c cs)) + length (getD cs c []) - length (allMembers (take c cs)) ≡ length (getD cs c []) = omega arith in
-      rw (e, s, n) (pair-at 0 eqb (equalAt m′) (getD cs c []) (length (allMembers (take c cs))) (λ i j q r. rw (member-at c i p q, member-at c j p r))))
+      rw (e, s, n) (pair-at 0 eqb (equalAt m) (getD cs c []) (length (allMembers (take c cs))) (λ i j q r. rw (member-at c i p q, member-at c j p r))))
 
 pub twin-is :
-    (j : Job) {r r′ b m b′ m′ : List ℕ}
-    → Stored (λ (x : ℕ). x) r 0 (j .regs) r′
-    → ClassesAt b m b′ m′ (j .classes)
-    → length (j .regs) ≤ length r
-    → length (j .classes) < length b
-    → length (allMembers (j .classes)) ≤ length m
+    (j : Job) {r b m : List ℕ}
+    → Begins (j .regs) r
+    → Begins (startsFrom length 0 (j .classes)) b
+    → Begins (allMembers (j .classes)) m
     → ((m : ℕ) → m ∈ j .regs → m < 2 ^ 64)
-    → (anyPair (equalAt r′) (count 0 (length (j .regs))) || any (memberTwice b′ m′) (count 0 (length (j .classes)))) ≡ twin j
+    → (anyPair (equalAt r) (count 0 (length (j .regs))) || any (memberTwice b m) (count 0 (length (j .classes)))) ≡ twin j
 unfolding twin
-twin-is j h g a b c s = rw (maps-are j h a s, members-are (j .classes) g b c)
+twin-is j h g k s = rw (maps-are j h s, members-are (j .classes) g k)

@@ -2,10 +2,10 @@
 // lie inside is empty.
 ghost use mathlib.Core.Path.{_≡_};
 ghost use Prim.Native.Nat.{_-_};
-ghost use lib.ListN.{getD, set, replicate};
+ghost use lib.ListN.{getD, set, replicate, drop};
 ghost use lib.Seq.{sets};
 ghost use lib.Ieee.{binary32, ofBits};
-ghost use Rattle.lent.specs.Parts.{part};
+ghost use Rattle.lent.specs.Parts.{part, filled};
 
 // The number at place i, or 0.
 pub fn at(s: &[u64], i: usize) -> u64
@@ -142,6 +142,41 @@ pub fn pad_float(s: &mut [f32], from: usize, to: usize)
     }
 }
 
+// Zeros at the first n places.
+pub fn zero(s: &mut [u64], n: usize)
+    ensures { λ r. ⌜ now (s .exit) ≡ filled n 0 (now (s .entry)) ⌝ }
+{
+    pad(s, 0, n);
+}
+
+// The same in a slice of 32-bit numbers.
+pub fn zero32(s: &mut [u32], n: usize)
+    ensures { λ r. ⌜ now (s .exit) ≡ filled n 0 (now (s .entry)) ⌝ }
+{
+    pad32(s, 0, n);
+}
+
+// The same in a slice of 16-bit numbers.
+pub fn zero16(s: &mut [u16], n: usize)
+    ensures { λ r. ⌜ now (s .exit) ≡ filled n 0 (now (s .entry)) ⌝ }
+{
+    pad16(s, 0, n);
+}
+
+// The same in a slice of bytes.
+pub fn zero8(s: &mut [u8], n: usize)
+    ensures { λ r. ⌜ now (s .exit) ≡ filled n 0 (now (s .entry)) ⌝ }
+{
+    pad8(s, 0, n);
+}
+
+// The same in a slice of weights.
+pub fn zero_float(s: &mut [f32], n: usize)
+    ensures { λ r. ⌜ now (s .exit) ≡ filled n (ofBits binary32 0) (now (s .entry)) ⌝ }
+{
+    pad_float(s, 0, n);
+}
+
 // The part from place a up to place b, which it does not have.
 pub fn part8(s: &[u8], a: usize, b: usize) -> &[u8]
     ensures { λ r. ⌜ now r ≡ part a b (now (s .entry)) ⌝ }
@@ -192,4 +227,54 @@ pub fn part_float(s: &[f32], a: usize, b: usize) -> &[f32]
         return &s[0..0];
     }
     &s[a..b]
+}
+
+// What stands from place a on.
+pub fn from(s: &[u64], a: usize) -> &[u64]
+    ensures { λ r. ⌜ now r ≡ drop a (now (s .entry)) ⌝ }
+{
+    if s.len() < a {
+        return &s[0..0];
+    }
+    &s[a..]
+}
+
+// The same of a slice of 32-bit numbers.
+pub fn from32(s: &[u32], a: usize) -> &[u32]
+    ensures { λ r. ⌜ now r ≡ drop a (now (s .entry)) ⌝ }
+{
+    if s.len() < a {
+        return &s[0..0];
+    }
+    &s[a..]
+}
+
+// The same of a slice of 16-bit numbers.
+pub fn from16(s: &[u16], a: usize) -> &[u16]
+    ensures { λ r. ⌜ now r ≡ drop a (now (s .entry)) ⌝ }
+{
+    if s.len() < a {
+        return &s[0..0];
+    }
+    &s[a..]
+}
+
+// The same of a slice of bytes.
+pub fn from8(s: &[u8], a: usize) -> &[u8]
+    ensures { λ r. ⌜ now r ≡ drop a (now (s .entry)) ⌝ }
+{
+    if s.len() < a {
+        return &s[0..0];
+    }
+    &s[a..]
+}
+
+// The same of a slice of weights.
+pub fn from_float(s: &[f32], a: usize) -> &[f32]
+    ensures { λ r. ⌜ now r ≡ drop a (now (s .entry)) ⌝ }
+{
+    if s.len() < a {
+        return &s[0..0];
+    }
+    &s[a..]
 }

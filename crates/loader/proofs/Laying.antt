@@ -1,82 +1,94 @@
 -- What loading leaves in what was lent: the layout of the job, and the tails. Assumes nothing.
-use Prim.Native.Nat.{ℕ, _+_, _-_, _≤_}
+use Prim.Native.Nat.{ℕ, suc, _+_, _-_, _≤_}
 use native.Mathlib.Omega.{arith}
-use mathlib.Core.Path.{_≡_, refl, ap, subst, _∙_}
-use mathlib.Core.List.{List, [], _∷_, _++_, map, map-id}
+use mathlib.Core.Path.{_≡_, refl, ap, sym, subst, _∙_}
+use mathlib.Core.List.{List, [], _∷_, _++_, map, append-assoc}
 use mathlib.Core.Bool.{Bool, true, false, _||_}
 use lib.Dec.{ltb}
 use lib.Ieee.{Float}
-use lib.ListN.{length, drop, replicate, length-map}
-use lib.Seq.{sets}
+use lib.ListN.{length, take, drop, length-map, length-drop, length-append, length-replicate, replicate}
+use lib.Seq.{sets, take-append-seam, drop-append-seam, drop-drop}
 use borrow.Author.Tests.{ltb-false}
 use Rattle.reg_matrix.specs.Lists.{padded}
 use Rattle.reg_matrix.specs.Refusals.{shortBuffer}
-use Rattle.reg_matrix.specs.Layout.{maxEntries, maxFixed}
+use Rattle.reg_matrix.specs.Layout.{maxEntries, maxFixed, useWords}
+use Rattle.reg_matrix.specs.declared.Entry.{Entry}
 use Rattle.reg_matrix.specs.declared.ValueSegment.{ValueSegment}
 use Rattle.job.specs.declared.Hint.{Hint}
-use Rattle.job.specs.declared.JobHeader.{JobHeader}
 use Rattle.job.specs.Model.{Job, VirtReg, zeroWeight}
 use Rattle.job.specs.Parser.{Parsed, parsed}
 use Rattle.job.specs.Load.{jobFields}
-use Rattle.job.specs.Layout.{jobBuffers, startsFrom, loadLimits}
+use Rattle.job.specs.Layout.{startsFrom, jobBuffers, JobSlices, jobSlices, loadLimits}
+use Rattle.job.proofs.Lists.{starts-length}
 use Rattle.job.proofs.Premises.{Premises}
+use Rattle.lent.specs.Parts.{filled}
 use Rattle.matrix.specs.Reserving.{lain}
 use Rattle.matrix.proofs.Loaded.{In}
-use Rattle.fields.specs.declared.whole.TableSizes.{TableSizes}
 use Rattle.fields.specs.declared.whole.JobRead.{JobRead}
 use Rattle.fields.specs.declared.whole.JobRead.the-variants.{Is, Refused}
-use Rattle.reader.specs.Read.{Stored, Laid, ClassesAt, FixedAt, VirtsAt, HintsAt, SegmentsAt, allMembers, hintsOfAll, segmentsOfAll, hintStarts, segmentStarts}
-use Rattle.fields.specs.Whole.{SizesOf, JobAt, JobOut}
-use Rattle.reader.proofs.Stores.{pad-tail, pad-stored}
-use Rattle.job.proofs.Lists.{starts-length}
-use Rattle.loader.specs.Loading.{Lent, jobLent, sizesOf, JobLaid, Stores, later}
-use Rattle.loader.proofs.Testing.{regs-many, classes-many, virts-many}
+use Rattle.reader.specs.Read.{allMembers, hintsOfAll, segmentsOfAll}
+use Rattle.fields.specs.Virt.{in32, in16, in8, inWeights, hintEnds, segmentEnds, VirtsAt}
+use Rattle.fields.specs.Whole.{JobAt, JobOut}
+use Rattle.loader.specs.Loading.{Lent, lent, sizesOf, cleared, Stores, later}
+use Rattle.loader.proofs.Regions.{region, laid-out}
 
 -- ---- a second reading finds the same job
 
-read-again : {s : List ℕ} {p : Parsed Job} (r : JobRead) {stored : Job → Type 0} {j : Job} {t : List ℕ} → JobOut s p r stored → p ≡ parsed j t → stored j
+pub read-again : {s : List ℕ} {p : Parsed Job} (r : JobRead) {stored : Job → Type 0} {j : Job} {t : List ℕ} → JobOut s p r stored → p ≡ parsed j t → stored j
 read-again (Refused n) h e = absurd (let q = h .parts in let z : _≡_ {A = ℕ} 0 1 = cc in omega arith)
 read-again (Is d z at) {stored} {j} h e =
     let same : h .parts .0 ≡ j = let q = h .parts .1 in cc in
     subst stored same (h .parts .4)
 
--- numbers stored as they are, and padded
-pad-numbers : {A : Type 0} (d : A) {b b′ b″ : List A} {xs : List A} {n : ℕ} (limit : ℕ) → Stored (λ (x : A). x) b 0 xs b′ → length xs ≡ n → b″ ≡ sets b′ n (replicate (limit - n) d) → Laid b (padded limit d xs) b″
-pad-numbers d {b} {b″} {xs} limit h n q = subst (λ (l : List _). Laid b (padded limit d l) b″) (map-id xs) (pad-stored d limit h n q)
+pub stores : {s : List ℕ} {B B₁ B′ : JobSlices} (r : JobRead) {fixed : List Entry → Type 0} → B₁ ≡ cleared B → JobOut s (jobFields s) r (JobAt B₁ B′ fixed) → Stores s B B′
+stores {B} {B₁} {B′} r e o =
+    record {
+      stored = λ j t w.
+          let a = read-again r o w in
+          subst (λ (z : JobSlices). JobAt z B′ (λ es. Unit {0}) j) e (record { regs = a .regs; virtRegs = a .virtRegs; reserved = tt });
+    }
 
--- every table stored and padded
-module _ {s : List ℕ} {h : JobHeader} {y : TableSizes} {x : JobRead}
-    {r r′ r″ b b′ b″ m m′ m″ n f t u n′ f′ t′ u′ k k′ k″ g g′ g″ z z′ z″ i i′ i″ l l′ l″ d d′ d″ o o′ o″ p p′ p″ q q′ q″ : List ℕ} {v v′ v″ e e′ e″ : List Float}
-    (out : JobOut s (jobFields s) x (JobAt (λ rs. Stored (λ (x : ℕ). x) r 0 rs r′) (ClassesAt b m b′ m′) (FixedAt n f t u n′ f′ t′ u′) (VirtsAt k g v z i l k′ g′ v′ z′ i′ l′) (HintsAt 0 d e d′ e′) (SegmentsAt 0 o p q o′ p′ q′)))
-    (regs : (r″ ≡ sets r′ (h .regs) (replicate (64 - h .regs) 0)) × ((b″ ≡ sets b′ (h .classes + 1) (replicate (17 - (h .classes + 1)) 0)) × (m″ ≡ sets m′ (y .«class_regs») (replicate (1024 - y .«class_regs») 0))))
-    (virts : (k″ ≡ sets k′ (h .«virt_regs») (replicate (512 - h .«virt_regs») 0)) × ((g″ ≡ sets g′ (h .«virt_regs») (replicate (512 - h .«virt_regs») 0)) × ((v″ ≡ sets v′ (h .«virt_regs») (replicate (512 - h .«virt_regs») zeroWeight)) × ((z″ ≡ sets z′ (h .«virt_regs») (replicate (512 - h .«virt_regs») 0)) × ((i″ ≡ sets i′ (h .«virt_regs» + 1) (replicate (513 - (h .«virt_regs» + 1)) 0)) × (l″ ≡ sets l′ (h .«virt_regs» + 1) (replicate (513 - (h .«virt_regs» + 1)) 0)))))))
-    (lists : (d″ ≡ sets d′ (y .hints) (replicate (1024 - y .hints) 0)) × ((e″ ≡ sets e′ (y .hints) (replicate (1024 - y .hints) zeroWeight)) × ((o″ ≡ sets o′ (y .segments) (replicate (512 - y .segments) 0)) × ((p″ ≡ sets p′ (y .segments) (replicate (512 - y .segments) 0)) × (q″ ≡ sets q′ (y .segments) (replicate (512 - y .segments) 0))))))
-  where
-    pub stores-all : Stores s h y (jobLent r b m [] k g v z i d e l o p q) (jobLent r″ b″ m″ [] k″ g″ v″ z″ i″ d″ e″ l″ o″ p″ q″)
-    unfolding jobBuffers
-    stores-all =
-        record {
-          laid = λ j t w c a.
-              let st = read-again x out w in
-              let one : length (j .classes) + 1 ≡ h .classes + 1 = ap (λ (n : ℕ). n + 1) (classes-many j c) in
-              let next : length (j .virtRegs) + 1 ≡ h .«virt_regs» + 1 = ap (λ (n : ℕ). n + 1) (virts-many j c) in
-              record {
-                regs = pad-numbers 0 64 (st .regs) (regs-many j c) (regs .0);
-                classStarts = pad-numbers 0 17 (st .classes .starts) (starts-length length 0 (j .classes) ∙ one) (regs .1 .0);
-                classRegs = pad-numbers 0 1024 (st .classes .members) (a .classRegs) (regs .1 .1);
-                classes = pad-stored 0 512 (st .virtRegs .classes) (virts-many j c) (virts .0);
-                valueSets = pad-stored 0 512 (st .virtRegs .valueSets) (virts-many j c) (virts .1 .0);
-                spillWeights = pad-stored zeroWeight 512 (st .virtRegs .spillWeights) (virts-many j c) (virts .1 .1 .0);
-                sizes = pad-stored 0 512 (st .virtRegs .sizes) (virts-many j c) (virts .1 .1 .1 .0);
-                hintStarts = pad-numbers 0 513 (st .virtRegs .hints) (starts-length (λ (v : VirtReg). length (v .hints)) 0 (j .virtRegs) ∙ next) (virts .1 .1 .1 .1 .0);
-                hintRegs = pad-stored 0 1024 (st .hints .regs) (a .hints) (lists .0);
-                hintWeights = pad-stored zeroWeight 1024 (st .hints .weights) (a .hints) (lists .1 .0);
-                segmentStarts = pad-numbers 0 513 (st .virtRegs .segments) (starts-length (λ (v : VirtReg). length (v .segments)) 0 (j .virtRegs) ∙ next) (virts .1 .1 .1 .1 .1);
-                froms = pad-stored 0 512 (st .segments .froms) (a .segments) (lists .1 .1 .0);
-                tos = pad-stored 0 512 (st .segments .tos) (a .segments) (lists .1 .1 .1 .0);
-                values = pad-stored 0 512 (st .segments .values) (a .segments) (lists .1 .1 .1 .1);
-              };
-        }
+-- ---- each slice
+
+laid-64 : (l regs : List ℕ) → length regs ≤ 64 → 64 ≤ length l → sets (filled 64 0 l) 0 regs ≡ padded 64 0 regs ++ drop 64 l
+laid-64 l regs a r = laid-out 0 l (region 64 0 regs ∷ []) (omega arith, tt) refl r
+
+laid-32 :
+    (l fs ts zs : List ℕ) → length fs ≤ 512 → length ts ≤ 512 → length zs ≤ 512 → 1536 ≤ length l
+    → in32 (filled 1536 0 l) fs ts zs ≡ padded 512 0 fs ++ (padded 512 0 ts ++ (padded 512 0 zs ++ drop 1536 l))
+unfolding in32
+laid-32 l fs ts zs a b c r = laid-out 0 l (region 512 0 fs ∷ region 512 0 ts ∷ region 512 0 zs ∷ []) (omega arith, (omega arith, (omega arith, tt))) refl r
+
+laid-16 :
+    (l cs gs vs hs ss : List ℕ) → length cs ≤ 17 → length gs ≤ 512 → length vs ≤ 512 → length hs ≤ 512 → length ss ≤ 512 → 2067 ≤ length l
+    → in16 (sets (filled 2067 0 l) 0 cs) gs vs hs ss
+    ≡ padded 17 0 cs ++ (padded 512 0 gs ++ (padded 512 0 vs ++ ((0 ∷ padded 512 0 hs) ++ ((0 ∷ padded 512 0 ss) ++ drop 2067 l))))
+unfolding in16
+laid-16 l cs gs vs hs ss a b c d e r =
+    laid-out 0 l (region 17 0 cs ∷ region 512 0 gs ∷ region 512 0 vs ∷ region 513 1 hs ∷ region 513 1 ss ∷ [])
+    (omega arith, (omega arith, (omega arith, (omega arith, (omega arith, tt))))) refl r
+
+laid-8 :
+    (l ms cs rs : List ℕ) → length ms ≤ 1024 → length cs ≤ 512 → length rs ≤ 1024 → 2560 ≤ length l
+    → in8 (sets (filled 2560 0 l) 0 ms) cs rs ≡ padded 1024 0 ms ++ (padded 512 0 cs ++ (padded 1024 0 rs ++ drop 2560 l))
+unfolding in8
+laid-8 l ms cs rs a b c r = laid-out 0 l (region 1024 0 ms ∷ region 512 0 cs ∷ region 1024 0 rs ∷ []) (omega arith, (omega arith, (omega arith, tt))) refl r
+
+laid-weights :
+    (l ss ws : List Float) → length ss ≤ 512 → length ws ≤ 1024 → 1536 ≤ length l
+    → inWeights (filled 1536 zeroWeight l) ss ws ≡ padded 512 zeroWeight ss ++ (padded 1024 zeroWeight ws ++ drop 1536 l)
+unfolding inWeights
+laid-weights l ss ws a b r = laid-out zeroWeight l (region 512 0 ss ∷ region 1024 0 ws ∷ []) (omega arith, (omega arith, tt)) refl r
+
+-- the places where lists begin, the first at 0
+module _ {A : Type 0} (size : A → ℕ) where
+  starts-padded : (xs : List A) → padded 513 0 (startsFrom size 0 xs) ≡ 0 ∷ padded 512 0 (drop 1 (startsFrom size 0 xs))
+  unfolding padded startsFrom
+  starts-padded [] = refl
+  starts-padded (x ∷ xs) =
+      let n = length (startsFrom size (0 + size x) xs) in
+      let e : 513 - suc n ≡ 512 - n = omega arith in
+      rw e
 
 -- ---- the sizes lent
 
@@ -88,26 +100,16 @@ or-rest : (a b : Bool) → (a || b) ≡ false → b ≡ false
 or-rest false b e = e
 or-rest true b e = absurd (let z : true ≡ false = e in let y : _≡_ {A = ℕ} 0 1 = cc in omega arith)
 
-long-enough : (n : ℕ) (ns : List ℕ) (k : ℕ) (ks : List ℕ) → shortBuffer (n ∷ ns) (k ∷ ks) ≡ false → (n ≤ k) × (shortBuffer ns ks ≡ false)
+pub long-enough : (n : ℕ) (ns : List ℕ) (k : ℕ) (ks : List ℕ) → shortBuffer (n ∷ ns) (k ∷ ks) ≡ false → (n ≤ k) × (shortBuffer ns ks ≡ false)
 unfolding shortBuffer
 long-enough n ns k ks e = (ltb-false k n (or-first (ltb k n) (shortBuffer ns ks) e), or-rest (ltb k n) (shortBuffer ns ks) e)
 
 pub record Room (b : Lent) : Type 0 where
-  pub regs : 64 ≤ length (b .job .regs)
-  pub classStarts : 17 ≤ length (b .job .classStarts)
-  pub classRegs : 1024 ≤ length (b .job .classRegs)
-  pub fixedUses : maxFixed ≤ length (b .job .fixedUses)
-  pub classes : 512 ≤ length (b .job .classes)
-  pub valueSets : 512 ≤ length (b .job .valueSets)
-  pub spillWeights : 512 ≤ length (b .job .spillWeights)
-  pub sizes : 512 ≤ length (b .job .sizes)
-  pub hintStarts : 513 ≤ length (b .job .hintStarts)
-  pub hintRegs : 1024 ≤ length (b .job .hintRegs)
-  pub hintWeights : 1024 ≤ length (b .job .hintWeights)
-  pub segmentStarts : 513 ≤ length (b .job .segmentStarts)
-  pub froms : 512 ≤ length (b .job .froms)
-  pub tos : 512 ≤ length (b .job .tos)
-  pub values : 512 ≤ length (b .job .values)
+  pub job64 : 576 ≤ length (b .job .job64)
+  pub job32 : 1536 ≤ length (b .job .job32)
+  pub job16 : 2067 ≤ length (b .job .job16)
+  pub job8 : 2560 ≤ length (b .job .job8)
+  pub weights : 1536 ≤ length (b .job .weights)
   pub ends : maxEntries ≤ length (b .ends)
   pub rests : maxEntries ≤ length (b .rests)
 
@@ -120,61 +122,64 @@ room b e =
     let l4 = long-enough _ _ _ _ (l3 .1) in
     let l5 = long-enough _ _ _ _ (l4 .1) in
     let l6 = long-enough _ _ _ _ (l5 .1) in
-    let l7 = long-enough _ _ _ _ (l6 .1) in
-    let l8 = long-enough _ _ _ _ (l7 .1) in
-    let l9 = long-enough _ _ _ _ (l8 .1) in
-    let l10 = long-enough _ _ _ _ (l9 .1) in
-    let l11 = long-enough _ _ _ _ (l10 .1) in
-    let l12 = long-enough _ _ _ _ (l11 .1) in
-    let l13 = long-enough _ _ _ _ (l12 .1) in
-    let l14 = long-enough _ _ _ _ (l13 .1) in
-    let l15 = long-enough _ _ _ _ (l14 .1) in
-    let l16 = long-enough _ _ _ _ (l15 .1) in
-    record {
-      regs = l0 .0;
-      classStarts = l1 .0;
-      classRegs = l2 .0;
-      fixedUses = l3 .0;
-      classes = l4 .0;
-      valueSets = l5 .0;
-      spillWeights = l6 .0;
-      sizes = l7 .0;
-      hintStarts = l8 .0;
-      hintRegs = l9 .0;
-      hintWeights = l10 .0;
-      segmentStarts = l11 .0;
-      froms = l12 .0;
-      tos = l13 .0;
-      values = l14 .0;
-      ends = l15 .0;
-      rests = l16 .0;
-    }
+    record { job64 = l0 .0; job32 = l1 .0; job16 = l2 .0; job8 = l3 .0; weights = l4 .0; ends = l5 .0; rests = l6 .0 }
 
--- ---- every buffer
+-- ---- every slice
 
-module _ {A : Type 0} (d : A) (limit : ℕ) {b b′ : List A} (vs : List A) where
-  laid-tail : Laid b (padded limit d vs) b′ → length vs ≤ limit → limit ≤ length b → b′ ≡ padded limit d vs ++ drop limit b
-  laid-tail h k l = h .is ∙ pad-tail d b vs limit k l
+module _ (j : Job) (p : Premises j) (b : Lent) (m : Room b) {B : JobSlices} (few : length (allMembers (j .classes)) ≤ 1024) (a : JobAt (cleared (b .job)) B (λ es. Unit {0}) j) where
+  fs : length (segmentsOfAll (j .virtRegs)) ≤ 512
+  fs = omega (arith, p .few-segments)
 
-pub all-later : (j : Job) (b b′ : Lent) (z : TableSizes) → Premises j → SizesOf z j → Room b → JobLaid j (b .job) (b′ .job) → In (j .fixed) (drop maxEntries (b .ends)) (drop maxEntries (b .rests)) (drop maxFixed (b .job .fixedUses)) (lain (b′ .ends) (b′ .rests) (b′ .job .fixedUses)) → b′ ≡ later j b
-unfolding later jobBuffers
-all-later j b b′ y p z m l i =
-    rw (
-      laid-tail 0 64 (j .regs) (l .regs) (omega (arith, p .few-regs)) (m .regs),
-      laid-tail 0 17 (startsFrom length 0 (j .classes)) (l .classStarts) (omega (arith, p .few-classes, starts-length (length {A = ℕ}) 0 (j .classes))) (m .classStarts),
-      laid-tail 0 1024 (allMembers (j .classes)) (l .classRegs) (omega (arith, z .classRegs, z .fewClassRegs)) (m .classRegs),
-      i .lie .are,
-      laid-tail 0 512 (map (λ (v : VirtReg). v .class) (j .virtRegs)) (l .classes) (simp length-map (omega (arith, p .few-numbers))) (m .classes),
-      laid-tail 0 512 (map (λ (v : VirtReg). v .valueSet) (j .virtRegs)) (l .valueSets) (simp length-map (omega (arith, p .few-numbers))) (m .valueSets),
-      laid-tail zeroWeight 512 (map (λ (v : VirtReg). v .spillWeight) (j .virtRegs)) (l .spillWeights) (simp length-map (omega (arith, p .few-numbers))) (m .spillWeights),
-      laid-tail 0 512 (map (λ (v : VirtReg). v .size) (j .virtRegs)) (l .sizes) (simp length-map (omega (arith, p .few-numbers))) (m .sizes),
-      laid-tail 0 513 (hintStarts (j .virtRegs)) (l .hintStarts) (omega (arith, p .few-numbers, starts-length (λ (v : VirtReg). length (v .hints)) 0 (j .virtRegs))) (m .hintStarts),
-      laid-tail 0 1024 (map (λ (x : Hint). x .reg) (hintsOfAll (j .virtRegs))) (l .hintRegs) (simp length-map (omega (arith, p .few-hints))) (m .hintRegs),
-      laid-tail zeroWeight 1024 (map (λ (x : Hint). x .weight) (hintsOfAll (j .virtRegs))) (l .hintWeights) (simp length-map (omega (arith, p .few-hints))) (m .hintWeights),
-      laid-tail 0 513 (segmentStarts (j .virtRegs)) (l .segmentStarts) (omega (arith, p .few-numbers, starts-length (λ (v : VirtReg). length (v .segments)) 0 (j .virtRegs))) (m .segmentStarts),
-      laid-tail 0 512 (map (λ (s : ValueSegment). s .from) (segmentsOfAll (j .virtRegs))) (l .froms) (simp length-map (omega (arith, p .few-segments))) (m .froms),
-      laid-tail 0 512 (map (λ (s : ValueSegment). s .to) (segmentsOfAll (j .virtRegs))) (l .tos) (simp length-map (omega (arith, p .few-segments))) (m .tos),
-      laid-tail 0 512 (map (λ (s : ValueSegment). s .value) (segmentsOfAll (j .virtRegs))) (l .values) (simp length-map (omega (arith, p .few-segments))) (m .values),
-      i .stands .ends-are,
-      i .stands .rests-are,
-    )
+  fh : length (hintsOfAll (j .virtRegs)) ≤ 1024
+  fh = omega (arith, p .few-hints)
+
+  fv : length (j .virtRegs) ≤ 512
+  fv = omega (arith, p .few-numbers)
+
+  pub regs-laid : B .job64 ≡ padded 64 0 (j .regs) ++ drop 64 (b .job .job64)
+  regs-laid = a .regs ∙ laid-64 (b .job .job64) (j .regs) (omega (arith, p .few-regs)) (omega (arith, m .job64))
+
+  pub laid-all-32 : B .job32 ≡ jobSlices j .job32 ++ drop 1536 (b .job .job32)
+  unfolding jobSlices jobBuffers
+  laid-all-32 =
+      a .virtRegs .job32 ∙ laid-32 (b .job .job32) _ _ _ (simp length-map fs) (simp length-map fs) (simp length-map fv) (m .job32) ∙ sym (simp append-assoc)
+
+  pub laid-all-16 : B .job16 ≡ jobSlices j .job16 ++ drop 2067 (b .job .job16)
+  unfolding jobSlices jobBuffers
+  laid-all-16 =
+      let ends : (A : Type 0) (f : VirtReg → List A) → length (drop 1 (startsFrom (λ (v : VirtReg). length (f v)) 0 (j .virtRegs))) ≤ 512 = λ A f. simp length-drop (omega (arith, starts-length (λ (v : VirtReg). length (f v)) 0 (j .virtRegs), p .few-numbers)) in
+      a .virtRegs .job16
+      ∙ laid-16 (b .job .job16) (startsFrom length 0 (j .classes)) (map (λ (v : VirtReg). v .valueSet) (j .virtRegs)) (map (λ (x : ValueSegment). x .value) (segmentsOfAll (j .virtRegs))) (hintEnds (j .virtRegs)) (segmentEnds (j .virtRegs))
+      (omega (arith, p .few-classes, starts-length (length {A = ℕ}) 0 (j .classes))) (simp length-map fv) (simp length-map fs) (ends Hint (λ (v : VirtReg). v .hints)) (ends ValueSegment (λ (v : VirtReg). v .segments)) (m .job16)
+      ∙ rw (starts-padded (λ (v : VirtReg). length (v .hints)) (j .virtRegs), starts-padded (λ (v : VirtReg). length (v .segments)) (j .virtRegs)) (sym (simp append-assoc))
+
+  pub laid-all-8 : B .job8 ≡ jobSlices j .job8 ++ drop 2560 (b .job .job8)
+  unfolding jobSlices jobBuffers
+  laid-all-8 =
+      a .virtRegs .job8 ∙ laid-8 (b .job .job8) (allMembers (j .classes)) (map (λ (v : VirtReg). v .class) (j .virtRegs)) (map (λ (x : Hint). x .reg) (hintsOfAll (j .virtRegs))) few (simp length-map fv) (simp length-map fh) (m .job8) ∙ sym (simp append-assoc)
+
+  pub laid-all-weights : B .weights ≡ jobSlices j .weights ++ drop 1536 (b .job .weights)
+  unfolding jobSlices jobBuffers
+  laid-all-weights =
+      a .virtRegs .weights ∙ laid-weights (b .job .weights) _ _ (simp length-map fv) (simp length-map fh) (m .weights) ∙ sym (simp append-assoc)
+
+  -- the fixed uses are put behind the registers' maps
+  front-size : length (padded 64 0 (j .regs)) ≡ 64
+  unfolding padded
+  front-size = omega (arith, length-append (j .regs) (replicate (64 - length (j .regs)) 0), length-replicate {A = ℕ} (64 - length (j .regs)) 0, p .few-regs)
+
+  pub front-kept : (take 64 (B .job64) ≡ padded 64 0 (j .regs)) × (drop 64 (B .job64) ≡ drop 64 (b .job .job64))
+  front-kept = (
+    ap (take 64) regs-laid ∙ rw front-size at (take-append-seam (padded 64 0 (j .regs)) (drop 64 (b .job .job64))),
+    ap (drop 64) regs-laid ∙ rw front-size at (drop-append-seam (padded 64 0 (j .regs)) (drop 64 (b .job .job64))),
+  )
+
+  pub all-later :
+      (W ends rests : List ℕ)
+      → In (j .fixed) (drop maxEntries (b .ends)) (drop maxEntries (b .rests)) (drop maxFixed (drop 64 (B .job64))) (lain ends rests W)
+      → lent (record { job64 = take 64 (B .job64) ++ W; job32 = B .job32; job16 = B .job16; job8 = B .job8; weights = B .weights }) ends rests ≡ later j b
+  unfolding later jobSlices jobBuffers
+  all-later W ends rests i =
+      let u = i .lie .are ∙ ap (λ (l : List ℕ). useWords (j .fixed) ++ drop maxFixed l) (front-kept .1) ∙ ap (λ (l : List ℕ). useWords (j .fixed) ++ l) (drop-drop maxFixed 64 (b .job .job64)) in
+      let v = ap (λ (l : List ℕ). take 64 (B .job64) ++ l) u ∙ ap (λ (l : List ℕ). l ++ (useWords (j .fixed) ++ drop 576 (b .job .job64))) (front-kept .0) ∙ sym (append-assoc (padded 64 0 (j .regs)) (useWords (j .fixed)) (drop 576 (b .job .job64))) in
+      rw (v, laid-all-32, laid-all-16, laid-all-8, laid-all-weights, i .stands .ends-are, i .stands .rests-are)

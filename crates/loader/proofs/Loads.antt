@@ -1,11 +1,13 @@
 -- Loading's answer, test by test, and what it leaves. Assumes nothing.
-use Prim.Native.Nat.{ℕ, _≤_, _<_}
+use Prim.Native.Nat.{ℕ, _+_, _-_, _≤_, _<_}
 use native.Mathlib.Omega.{arith}
 use mathlib.Core.Path.{_≡_, refl, ap, sym, subst, _∙_}
-use mathlib.Core.List.{List, [], _∷_}
-use mathlib.Core.Bool.{Bool, true, false, not, _||_}
-use lib.Dec.{ltb}
-use lib.ListN.{length, drop}
+use mathlib.Core.List.{List, _∷_, _++_, append-nil}
+use mathlib.Core.Bool.{Bool, true, false, not}
+use lib.ListN.{length, take, drop, length-drop, drop-of-length-le}
+use lib.Seq.{drop-drop}
+use borrow.Rule.Slice.PartMut.{midOf, putMid}
+use Rattle.lent.proofs.Laws.{all-from}
 use borrow.Author.Tests.{lt-ltb, le-ltb}
 use Rattle.reg_matrix.specs.Lists.{isNil}
 use Rattle.reg_matrix.specs.Refusals.{shortBuffer}
@@ -14,17 +16,17 @@ use Rattle.job.specs.declared.JobHeader.{JobHeader}
 use Rattle.job.specs.Model.{Job}
 use Rattle.job.specs.Parser.{Parsed, refused, parsed, andThen, _>>_, done, refuse}
 use Rattle.job.specs.Load.{Bytes, jobFields, twin, mixedSet, cutUse, wholeJob, asLoaded, notLoaded, loaded, loadWith}
-use Rattle.job.specs.Layout.{JobBuffers, loadLimits, headerOf}
+use Rattle.job.specs.Layout.{JobSlices, loadLimits, headerOf}
 use Rattle.job.proofs.Loads.{loads-premises}
 use Rattle.matrix.specs.Reserving.{Lain, lain, cleared}
 use Rattle.matrix.proofs.Loaded.{In}
 use Rattle.fields.specs.declared.whole.TableSizes.{TableSizes}
 use Rattle.reader.specs.Read.{FixedAt}
 use Rattle.fields.specs.Whole.{SizesOf}
-use Rattle.loader.specs.Loading.{jobLent, Lent, sizesOf, testedJob, JobLaid, Stores, reservingAll, later, LoadDone}
+use Rattle.loader.specs.Loading.{Lent, lent, sizesOf, testedJob, Stores, reservingAll, later, LoadDone}
 use Rattle.loader.specs.declared.load.JobLoaded.the-variants.{Is, Refused}
 use Rattle.loader.proofs.Reserves.{reserved-job}
-use Rattle.loader.proofs.Laying.{room, all-later}
+use Rattle.loader.proofs.Laying.{long-enough, room, front-kept, all-later}
 
 -- ---- what passed the tests was read
 
@@ -44,30 +46,6 @@ module _ (j : Job) (t : List ℕ) where
   unfolding testedJob
   fields-read s e = was-read (jobFields s) e
 
--- ---- the buffers but for that of the fixed uses, which the second reading is not lent
-
-abbrev noUses : JobBuffers → JobBuffers
-noUses b = jobLent (b .regs) (b .classStarts) (b .classRegs) [] (b .classes) (b .valueSets) (b .spillWeights) (b .sizes) (b .hintStarts) (b .hintRegs) (b .hintWeights) (b .segmentStarts) (b .froms) (b .tos) (b .values)
-
-laid-all : {j : Job} (b b′ : JobBuffers) → JobLaid j (noUses b) (noUses b′) → JobLaid j b b′
-laid-all b b′ l =
-    record {
-      regs = l .regs;
-      classStarts = l .classStarts;
-      classRegs = l .classRegs;
-      classes = l .classes;
-      valueSets = l .valueSets;
-      spillWeights = l .spillWeights;
-      sizes = l .sizes;
-      hintStarts = l .hintStarts;
-      hintRegs = l .hintRegs;
-      hintWeights = l .hintWeights;
-      segmentStarts = l .segmentStarts;
-      froms = l .froms;
-      tos = l .tos;
-      values = l .values;
-    }
-
 -- ---- loading's answer
 
 module _ (s : List ℕ) (b : Lent) where
@@ -81,44 +59,68 @@ module _ (s : List ℕ) (b : Lent) where
   unfolding loadWith wholeJob testedJob
   tested-loads e h = rw (e, le-ltb 32_768 (length s) h)
 
--- the sizes are tested in two parts
-module _ (s : List ℕ) (b : Lent) {rest r : Bool}
-    (q : r ≡ (ltb (length (b .job .regs)) 64 || (ltb (length (b .job .classStarts)) 17 || (ltb (length (b .job .classRegs)) 1024 || (ltb (length (b .job .fixedUses)) 512 || (ltb (length (b .job .classes)) 512 || (ltb (length (b .job .valueSets)) 512 || (ltb (length (b .job .spillWeights)) 512 || (ltb (length (b .job .sizes)) 512 || rest)))))))))
-    (w : rest ≡ shortBuffer (513 ∷ 1024 ∷ 1024 ∷ 513 ∷ 512 ∷ 512 ∷ 512 ∷ 2560 ∷ 2560 ∷ []) (length (b .job .hintStarts) ∷ length (b .job .hintRegs) ∷ length (b .job .hintWeights) ∷ length (b .job .segmentStarts) ∷ length (b .job .froms) ∷ length (b .job .tos) ∷ length (b .job .values) ∷ length (b .ends) ∷ length (b .rests) ∷ []))
-  where
-    short-is : shortBuffer loadLimits (sizesOf b) ≡ r
-    unfolding shortBuffer
-    short-is = sym (q ∙ rw w)
+-- the rest of a slice, put back
+rest-put : (xs ys : List ℕ) → putMid 64 (length xs - 64) xs ys ≡ take 64 xs ++ ys
+rest-put xs ys =
+    ap (λ (l : List ℕ). take 64 xs ++ (ys ++ l)) (drop-drop (length xs - 64) 64 xs ∙ drop-of-length-le xs {i = 64 + (length xs - 64)} (omega arith))
+    ∙ ap (λ (l : List ℕ). take 64 xs ++ l) (append-nil ys)
 
-    pub short-done : r ≡ true → LoadDone s b b (Refused 15)
-    unfolding loadWith wholeJob
-    short-done e = refused-done s b (rw (short-is ∙ e))
+-- there is room for the registers' maps
+pub has-uses : (n : ℕ) (ns : List ℕ) {r : Bool} → r ≡ shortBuffer loadLimits (n ∷ ns) → r ≡ false → 64 ≤ n
+has-uses n ns q e = omega (arith, long-enough 576 _ n ns (sym q ∙ e) .0)
 
-    pub long-done : r ≡ false → 32_768 < length s → LoadDone s b b (Refused 4)
-    unfolding loadWith wholeJob
-    long-done e h = refused-done s b (rw (short-is ∙ e, lt-ltb 32_768 (length s) h))
+module _ (s : List ℕ) (b : Lent) {r : Bool} (q : r ≡ shortBuffer loadLimits (sizesOf b)) where
+  pub short-done : r ≡ true → LoadDone s b b (Refused 15)
+  unfolding loadWith wholeJob
+  short-done e = refused-done s b (rw (sym q ∙ e))
 
-    pub tests-done : r ≡ false → length s ≤ 32_768 → {n : ℕ} → testedJob s ≡ refused n → LoadDone s b b (Refused n)
-    tests-done e h f = refused-done s b (tested-loads s b (short-is ∙ e) h ∙ ap asLoaded f)
+  pub long-done : r ≡ false → 32_768 < length s → LoadDone s b b (Refused 4)
+  unfolding loadWith wholeJob
+  long-done e h = refused-done s b (rw (sym q ∙ e, lt-ltb 32_768 (length s) h))
 
-    pub job-done :
-        (b′ : Lent) (j : Job) (t : List ℕ) {h : JobHeader} (z : TableSizes) {n f g u n′ f′ g′ u′ : List ℕ}
-        → Bytes s
-        → r ≡ false
-        → length s ≤ 32_768
-        → testedJob s ≡ parsed j t
-        → h ≡ headerOf j
-        → SizesOf z j
-        → FixedAt n f g u n′ f′ g′ u′ (j .fixed)
-        → (512 ≤ length n) × (512 ≤ length f) × (512 ≤ length g) × (512 ≤ length u)
-        → Stores s h z (noUses (b .job)) (noUses (b′ .job))
-        → lain (b′ .ends) (b′ .rests) (b′ .job .fixedUses) ≡ reservingAll n′ f′ g′ u′ (z .fixed) (cleared (lain (b .ends) (b .rests) (b .job .fixedUses)))
-        → LoadDone s b b′ (Is h)
-    job-done b′ j t z bytes x l e d y fx roomy st re =
-        let a : loadWith loadLimits (sizesOf b) s ≡ loaded j = tested-loads s b (short-is ∙ x) l ∙ ap asLoaded e in
-        let p = loads-premises loadLimits (sizesOf b) s j bytes a in
-        let m = room b (short-is ∙ x) in
-        loaded-done s b b′ j a d
-        (all-later j b b′ z p y m (laid-all (b .job) (b′ .job) (st .laid j t (fields-read j t s e) d y))
-        (subst (λ (l : Lain). In (j .fixed) (drop maxEntries (b .ends)) (drop maxEntries (b .rests)) (drop maxFixed (b .job .fixedUses)) l) (sym re)
-        (reserved-job j p fx roomy (lain (b .ends) (b .rests) (b .job .fixedUses)) (y .fixed) (m .ends) (m .rests) (m .fixedUses))))
+  pub tests-done : r ≡ false → length s ≤ 32_768 → {n : ℕ} → testedJob s ≡ refused n → LoadDone s b b (Refused n)
+  tests-done e h f = refused-done s b (tested-loads s b (sym q ∙ e) h ∙ ap asLoaded f)
+
+  kept-job :
+      (B : JobSlices) (W ends rests : List ℕ) (j : Job) (t : List ℕ) {h : JobHeader} (z : TableSizes) {n f g u n′ f′ g′ u′ : List ℕ}
+      → Bytes s
+      → r ≡ false
+      → length s ≤ 32_768
+      → testedJob s ≡ parsed j t
+      → h ≡ headerOf j
+      → SizesOf z j
+      → FixedAt n f g u n′ f′ g′ u′ (j .fixed)
+      → (512 ≤ length n) × (512 ≤ length f) × (512 ≤ length g) × (512 ≤ length u)
+      → Stores s (b .job) B
+      → lain ends rests W ≡ reservingAll n′ f′ g′ u′ (z .fixed) (cleared (lain (b .ends) (b .rests) (drop 64 (B .job64))))
+      → LoadDone s b (lent (record { job64 = take 64 (B .job64) ++ W; job32 = B .job32; job16 = B .job16; job8 = B .job8; weights = B .weights }) ends rests) (Is h)
+  kept-job B W ends rests j t z bytes x l e d y fx roomy st re =
+      let a : loadWith loadLimits (sizesOf b) s ≡ loaded j = tested-loads s b (sym q ∙ x) l ∙ ap asLoaded e in
+      let p = loads-premises loadLimits (sizesOf b) s j bytes a in
+      let m = room b (sym q ∙ x) in
+      let k = st .stored j t (fields-read j t s e) in
+      let w = front-kept j p b m (y .fewClassRegs) k in
+      let v : maxFixed ≤ length (drop 64 (B .job64)) = rw (w .1) (simp length-drop (omega (arith, m .job64))) in
+      loaded-done s b _ j a d
+      (all-later j p b m (y .fewClassRegs) k W ends rests
+      (subst (λ (l : Lain). In (j .fixed) (drop maxEntries (b .ends)) (drop maxEntries (b .rests)) (drop maxFixed (drop 64 (B .job64))) l) (sym re)
+      (reserved-job j p fx roomy (lain (b .ends) (b .rests) (drop 64 (B .job64))) (y .fixed) (m .ends) (m .rests) v)))
+
+  -- the fixed uses were lent the rest of the first slice
+  pub job-done :
+      (B : JobSlices) (W ends rests : List ℕ) (j : Job) (t : List ℕ) {h : JobHeader} (z : TableSizes) {n f g u n′ f′ g′ u′ : List ℕ}
+      → Bytes s
+      → r ≡ false
+      → length s ≤ 32_768
+      → testedJob s ≡ parsed j t
+      → h ≡ headerOf j
+      → SizesOf z j
+      → FixedAt n f g u n′ f′ g′ u′ (j .fixed)
+      → (512 ≤ length n) × (512 ≤ length f) × (512 ≤ length g) × (512 ≤ length u)
+      → Stores s (b .job) B
+      → lain ends rests W ≡ reservingAll n′ f′ g′ u′ (z .fixed) (cleared (lain (b .ends) (b .rests) (midOf 64 (length (B .job64) - 64) (B .job64))))
+      → LoadDone s b (lent (record { job64 = putMid 64 (length (B .job64) - 64) (B .job64) W; job32 = B .job32; job16 = B .job16; job8 = B .job8; weights = B .weights }) ends rests) (Is h)
+  job-done B W ends rests j t {h} z {n} {f} {g} {u} {n′} {f′} {g′} {u′} bytes x l e d y fx roomy st re =
+      let w = rest-put (B .job64) W in
+      subst (λ (v : List ℕ). LoadDone s b (lent (record { job64 = v; job32 = B .job32; job16 = B .job16; job8 = B .job8; weights = B .weights }) ends rests) (Is h)) (sym w)
+      (kept-job B W ends rests j t z bytes x l e d y fx roomy st (re ∙ ap (λ (v : List ℕ). reservingAll n′ f′ g′ u′ (z .fixed) (cleared (lain (b .ends) (b .rests) v))) (all-from 64 (B .job64))))

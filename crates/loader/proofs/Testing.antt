@@ -2,22 +2,27 @@
 use Prim.Native.Nat.{ℕ, zero, suc, _≤_, _<_}
 use native.Mathlib.Omega.{arith}
 use mathlib.Core.Path.{_≡_, refl, ap, sym, _∙_}
-use mathlib.Core.List.{List, [], _∷_}
+use mathlib.Core.List.{List, [], _∷_, map}
 use mathlib.Core.Bool.{Bool, true, false, _||_}
-use lib.Ieee.{Float}
-use lib.ListN.{length, drop}
-use lib.Seq.{drop-cons}
+use lib.ListN.{length, drop, length-map}
+use lib.Seq.{drop-cons, sets, length-sets}
+use Rattle.lent.specs.Parts.{Begins}
+use Rattle.lent.proofs.Laws.{begins-stored, begins-behind}
 use Rattle.reg_matrix.specs.Lists.{any, anyPair, count, isNil}
 use Rattle.reg_matrix.specs.declared.Entry.{Entry}
+use Rattle.reg_matrix.specs.declared.ValueSegment.{ValueSegment}
+use Rattle.job.specs.declared.Hint.{Hint}
 use Rattle.job.specs.declared.JobHeader.{JobHeader}
 use Rattle.job.specs.Model.{VirtReg, Job}
 use Rattle.job.specs.Parser.{refused, parsed, _>>_, done, refuse}
 use Rattle.job.specs.Load.{Bytes, jobFields, twin, mixedSet, cutUse}
-use Rattle.job.specs.Layout.{headerOf}
+use Rattle.job.specs.Layout.{startsFrom, JobSlices, headerOf}
 use Rattle.job.proofs.Fields.{GoodJob, fields-good}
+use Rattle.job.proofs.Lists.{starts-length}
 use Rattle.fields.specs.declared.whole.TableSizes.{TableSizes}
 use Rattle.fields.specs.declared.whole.JobRead.the-variants.{Is, Refused}
-use Rattle.reader.specs.Read.{Stored, ClassesAt, FixedAt, VirtsAt, HintsAt, SegmentsAt, allMembers, segmentsOfAll}
+use Rattle.reader.specs.Read.{FixedAt, allMembers, hintsOfAll, segmentsOfAll}
+use Rattle.fields.specs.Virt.{in32, in16, in8, hintEnds, segmentEnds}
 use Rattle.fields.specs.Whole.{SizesOf, JobAt, JobOut}
 use Rattle.reader.proofs.Tables.{segmentsIn-length}
 use Rattle.job_tests.specs.Tests.{equalAt, memberTwice, classesDiffer, crossesAt, wholeNumber}
@@ -87,37 +92,118 @@ three : {a a′ b b′ c c′ : Bool} → a ≡ a′ → b ≡ b′ → c ≡ c�
 three {a′} {b} {b′} {c} e f g =
     ap (λ (x : Bool). wholeNumber x b c) e ∙ ap (λ (x : Bool). wholeNumber a′ x c) f ∙ ap (λ (x : Bool). wholeNumber a′ b′ x) g
 
+-- ---- the lists that the tests ask for, in the job's slices
+
+-- each stands where its list begins, if there is room for it
+pub record Asked (j : Job) (B : JobSlices) : Type 0 where
+  pub regs : Begins (j .regs) (B .job64)
+  pub starts : Begins (startsFrom length 0 (j .classes)) (B .job16)
+  pub members : Begins (allMembers (j .classes)) (B .job8)
+  pub classes : Begins (map (λ (v : VirtReg). v .class) (j .virtRegs)) (drop 1024 (B .job8))
+  pub valueSets : Begins (map (λ (v : VirtReg). v .valueSet) (j .virtRegs)) (drop 17 (B .job16))
+  pub froms : Begins (map (λ (x : ValueSegment). x .from) (segmentsOfAll (j .virtRegs))) (B .job32)
+  pub tos : Begins (map (λ (x : ValueSegment). x .to) (segmentsOfAll (j .virtRegs))) (drop 512 (B .job32))
+  pub values : Begins (map (λ (x : ValueSegment). x .value) (segmentsOfAll (j .virtRegs))) (drop 529 (B .job16))
+
+-- what the tests ask for of the slices
+pub record Roomy (B : JobSlices) : Type 0 where
+  pub job64 : 64 ≤ length (B .job64)
+  pub job32 : 1024 ≤ length (B .job32)
+  pub job16 : 1041 ≤ length (B .job16)
+  pub job8 : 1536 ≤ length (B .job8)
+
+-- how many there are of each
+pub record Few (j : Job) : Type 0 where
+  pub regs : length (j .regs) ≤ 64
+  pub classes : length (j .classes) ≤ 16
+  pub classRegs : length (allMembers (j .classes)) ≤ 1024
+  pub fixed : length (j .fixed) ≤ 512
+  pub numbers : length (j .virtRegs) ≤ 512
+  pub segments : length (segmentsOfAll (j .virtRegs)) ≤ 512
+
+module _ {A : Type 0} where
+  front-behind : (l xs : List A) (c : ℕ) (ys : List A) → length xs ≤ c → Begins xs l → Begins xs (sets l c ys)
+  front-behind l xs c ys h b = begins-behind 0 l xs c ys (omega arith) b
+
+asked-32 : (w fs ts zs : List ℕ) → length fs ≤ 512 → length ts ≤ 512 → 1024 ≤ length w → Begins fs (in32 w fs ts zs) × Begins ts (drop 512 (in32 w fs ts zs))
+unfolding in32
+asked-32 w fs ts zs a b r = (
+  front-behind _ fs 1024 zs (omega arith) (front-behind _ fs 512 ts a (begins-stored 0 w fs (omega arith))),
+  begins-behind 512 _ ts 1024 zs (omega arith) (begins-stored 512 (sets w 0 fs) ts (rw (length-sets w 0 fs) (omega arith))),
+)
+
+asked-16 :
+    (h cs gs vs hs ss : List ℕ)
+    → length cs ≤ 17
+    → length gs ≤ 512
+    → length vs ≤ 512
+    → 1041 ≤ length h
+    → Begins cs (in16 (sets h 0 cs) gs vs hs ss) × Begins gs (drop 17 (in16 (sets h 0 cs) gs vs hs ss)) × Begins vs (drop 529 (in16 (sets h 0 cs) gs vs hs ss))
+unfolding in16
+asked-16 h cs gs vs hs ss a b c r = (
+  front-behind _ cs 1555 ss (omega arith) (front-behind _ cs 1042 hs (omega arith) (front-behind _ cs 529 vs (omega arith) (front-behind _ cs 17 gs a (begins-stored 0 h cs (omega arith))))),
+  begins-behind 17 _ gs 1555 ss (omega arith) (begins-behind 17 _ gs 1042 hs (omega arith) (begins-behind 17 _ gs 529 vs (omega arith) (begins-stored 17 (sets h 0 cs) gs (rw (length-sets h 0 cs) (omega arith))))),
+  begins-behind 529 _ vs 1555 ss (omega arith) (begins-behind 529 _ vs 1042 hs (omega arith) (begins-stored 529 (sets (sets h 0 cs) 17 gs) vs (rw (length-sets (sets h 0 cs) 17 gs, length-sets h 0 cs) (omega arith)))),
+)
+
+asked-8 : (b ms cs rs : List ℕ) → length ms ≤ 1024 → length cs ≤ 512 → 1536 ≤ length b → Begins ms (in8 (sets b 0 ms) cs rs) × Begins cs (drop 1024 (in8 (sets b 0 ms) cs rs))
+unfolding in8
+asked-8 b ms cs rs a c r = (
+  front-behind _ ms 1536 rs (omega arith) (front-behind _ ms 1024 cs a (begins-stored 0 b ms (omega arith))),
+  begins-behind 1024 _ cs 1536 rs (omega arith) (begins-stored 1024 (sets b 0 ms) cs (rw (length-sets b 0 ms) (omega arith))),
+)
+
+pub asked : (j : Job) (B B′ : JobSlices) {fixed : List Entry → Type 0} → Few j → Roomy B → JobAt B B′ fixed j → Asked j B′
+asked j B B′ f r a =
+    let v = a .virtRegs in
+    let ls : length (startsFrom length 0 (j .classes)) ≤ 17 = omega (arith, starts-length (length {A = ℕ}) 0 (j .classes), f .classes) in
+    let ss = segmentsOfAll (j .virtRegs) in
+    let vs = j .virtRegs in
+    let x =
+    asked-32 (B .job32) (map (λ (x : ValueSegment). x .from) ss) (map (λ (x : ValueSegment). x .to) ss) (map (λ (v : VirtReg). v .size) vs)
+    (simp length-map (f .segments)) (simp length-map (f .segments)) (r .job32) in
+    let y =
+    asked-16 (B .job16) (startsFrom length 0 (j .classes)) (map (λ (v : VirtReg). v .valueSet) vs) (map (λ (x : ValueSegment). x .value) ss) (hintEnds vs) (segmentEnds vs)
+    ls (simp length-map (f .numbers)) (simp length-map (f .segments)) (r .job16) in
+    let z =
+    asked-8 (B .job8) (allMembers (j .classes)) (map (λ (v : VirtReg). v .class) vs) (map (λ (x : Hint). x .reg) (hintsOfAll vs))
+    (f .classRegs) (simp length-map (f .numbers)) (r .job8) in
+    record {
+      regs = rw (a .regs) (begins-stored 0 (B .job64) (j .regs) (omega (arith, f .regs, r .job64)));
+      starts = rw (v .job16) (y .0);
+      members = rw (v .job8) (z .0);
+      classes = rw (v .job8) (z .1);
+      valueSets = rw (v .job16) (y .1);
+      froms = rw (v .job32) (x .0);
+      tos = rw (v .job32) (x .1);
+      values = rw (v .job16) (y .2);
+    }
+
+few : (j : Job) {z : TableSizes} → GoodJob j → SizesOf z j → Few j
+few j good z = record {
+  regs = good .regs .few;
+  classes = good .classes .few;
+  classRegs = z .fewClassRegs;
+  fixed = good .few-fixed;
+  numbers = good .few-numbers;
+  segments = omega (arith, segmentsIn-length (j .virtRegs), good .virtRegs .few-segments);
+}
+
 numbers-are :
-    (j : Job) (h : JobHeader) (y : TableSizes) {r r′ b m b′ m′ n f t u n′ f′ t′ u′ k k′ g g′ o p q o′ p′ q′ : List ℕ}
+    (j : Job) (h : JobHeader) (y : TableSizes) (B : JobSlices) {n f t u n′ f′ t′ u′ : List ℕ}
     → GoodJob j
     → h ≡ headerOf j
     → SizesOf y j
-    → Stored (λ (x : ℕ). x) r 0 (j .regs) r′
-    → ClassesAt b m b′ m′ (j .classes)
+    → Asked j B
     → FixedAt n f t u n′ f′ t′ u′ (j .fixed)
-    → Stored (λ (v : VirtReg). v .class) k 0 (j .virtRegs) k′
-    → Stored (λ (v : VirtReg). v .valueSet) g 0 (j .virtRegs) g′
-    → SegmentsAt 0 o p q o′ p′ q′ (segmentsOfAll (j .virtRegs))
-    → 64 ≤ length r
-    → 17 ≤ length b
-    → 1024 ≤ length m
     → (512 ≤ length f) × (512 ≤ length t) × (512 ≤ length u)
-    → 512 ≤ length k
-    → 512 ≤ length g
-    → (512 ≤ length o) × (512 ≤ length p) × (512 ≤ length q)
-    → wholeNumber (anyPair (equalAt r′) (count 0 (h .regs)) || any (memberTwice b′ m′) (count 0 (h .classes))) (anyPair (classesDiffer k′ g′) (count 0 (h .«virt_regs»))) (any (crossesAt o′ p′ q′ f′ t′ u′ (y .fixed)) (count 0 (y .segments))) ≡ wholeNumber (twin j) (mixedSet j) (cutUse j)
-numbers-are j h y good e z rs cs es ks gs ss a b c d x i l =
-    let fs = segmentsIn-length (j .virtRegs) in
-    let few : length (segmentsOfAll (j .virtRegs)) ≤ 512 = omega (arith, fs, good .virtRegs .few-segments) in
-    let fr = good .regs .few in
-    let fc = good .classes .few in
+    → wholeNumber (anyPair (equalAt (B .job64)) (count 0 (h .regs)) || any (memberTwice (B .job16) (B .job8)) (count 0 (h .classes))) (anyPair (classesDiffer (drop 1024 (B .job8)) (drop 17 (B .job16))) (count 0 (h .«virt_regs»))) (any (crossesAt (B .job32) (drop 512 (B .job32)) (drop 529 (B .job16)) f′ t′ u′ (y .fixed)) (count 0 (y .segments))) ≡ wholeNumber (twin j) (mixedSet j) (cutUse j)
+numbers-are j h y B good e z a es d =
     let fe = good .few-fixed in
-    let fv = good .few-numbers in
-    let fm : length (allMembers (j .classes)) ≤ 1024 = omega (arith, z .classRegs, z .fewClassRegs) in
     rw (← regs-many j e, ← classes-many j e, ← virts-many j e, ← z .fixed, ← z .segments)
-    (three (twin-is j rs cs (omega (arith, fr, a)) (omega (arith, fc, b)) (omega (arith, fm, c)) (λ m n. good .regs .each m n .small))
-    (mixed-is j ks gs (omega (arith, fv, x)) (omega (arith, fv, i)))
-    (cut-is j es (omega (arith, fe, d .0)) (omega (arith, fe, d .1)) (omega (arith, fe, d .2)) ss (omega (arith, few, l .0)) (omega (arith, few, l .1)) (omega (arith, few, l .2))))
+    (three (twin-is j (a .regs) (a .starts) (a .members) (λ m n. good .regs .each m n .small))
+    (mixed-is j (a .classes) (a .valueSets))
+    (cut-is j es (omega (arith, fe, d .0)) (omega (arith, fe, d .1)) (omega (arith, fe, d .2)) (a .froms) (a .tos) (a .values)))
 
 -- ---- the first reading's answer
 
@@ -127,26 +213,22 @@ fields-out s o = record { parts = fields-refuse s (o .parts) }
 pub tail-out : (s : List ℕ) {h : JobHeader} {z : TableSizes} {at : ℕ} {stored : Job → Type 0} {fixed : List Entry → Type 0} → JobOut s (jobFields s) (Is h z at) stored → at < length s → TestedOut (testedJob s) (NotTested 2) fixed
 tail-out s {at} o l = record { parts = fields-refuse-tail s (o .parts .1) (something-left s at l) }
 
-module _ (s : List ℕ) (bytes : Bytes s) {h : JobHeader} {y : TableSizes} {at x : ℕ} {r r′ b m b′ m′ n f t u n′ f′ t′ u′ k g z i l k′ g′ z′ i′ l′ d d′ o p q o′ p′ q′ : List ℕ} {v e v′ e′ : List Float}
-    (out : JobOut s (jobFields s) (Is h y at) (JobAt (λ rs. Stored (λ (x : ℕ). x) r 0 rs r′) (ClassesAt b m b′ m′) (FixedAt n f t u n′ f′ t′ u′) (VirtsAt k g v z i l k′ g′ v′ z′ i′ l′) (HintsAt 0 d e d′ e′) (SegmentsAt 0 o p q o′ p′ q′)))
-    (regs : 64 ≤ length r)
-    (starts : 17 ≤ length b)
-    (members : 1024 ≤ length m)
+module _ (s : List ℕ) (bytes : Bytes s) {h : JobHeader} {y : TableSizes} {at x : ℕ} (B B′ : JobSlices) {n f t u n′ f′ t′ u′ : List ℕ}
+    (out : JobOut s (jobFields s) (Is h y at) (JobAt B B′ (FixedAt n f t u n′ f′ t′ u′)))
+    (room : Roomy B)
     (fixed : (512 ≤ length f) × (512 ≤ length t) × (512 ≤ length u))
-    (classes : 512 ≤ length k)
-    (sets : 512 ≤ length g)
-    (segments : (512 ≤ length o) × (512 ≤ length p) × (512 ≤ length q))
     (all : length s ≤ at)
-    (is : x ≡ wholeNumber (anyPair (equalAt r′) (count 0 (h .regs)) || any (memberTwice b′ m′) (count 0 (h .classes))) (anyPair (classesDiffer k′ g′) (count 0 (h .«virt_regs»))) (any (crossesAt o′ p′ q′ f′ t′ u′ (y .fixed)) (count 0 (y .segments))))
+    (is : x ≡ wholeNumber (anyPair (equalAt (B′ .job64)) (count 0 (h .regs)) || any (memberTwice (B′ .job16) (B′ .job8)) (count 0 (h .classes))) (anyPair (classesDiffer (drop 1024 (B′ .job8)) (drop 17 (B′ .job16))) (count 0 (h .«virt_regs»))) (any (crossesAt (B′ .job32) (drop 512 (B′ .job32)) (drop 529 (B′ .job16)) f′ t′ u′ (y .fixed)) (count 0 (y .segments))))
   where
     number : wholeNumber (twin (out .parts .0)) (mixedSet (out .parts .0)) (cutUse (out .parts .0)) ≡ x
     number =
         let a = out .parts .4 in
-        sym (numbers-are (out .parts .0) h y (fields-good s bytes (out .parts .1)) (out .parts .2) (out .parts .3) (a .regs) (a .classes) (a .fixed) (a .virtRegs .classes) (a .virtRegs .valueSets) (a .segments) regs starts members fixed classes sets segments) ∙ sym is
+        let good = fields-good s bytes (out .parts .1) in
+        sym (numbers-are (out .parts .0) h y B′ good (out .parts .2) (out .parts .3) (asked (out .parts .0) B B′ (few (out .parts .0) good (out .parts .3)) room a) (a .reserved) fixed) ∙ sym is
 
     pub none-out : x ≡ 0 → TestedOut (testedJob s) (IsTested h y) (FixedAt n f t u n′ f′ t′ u′)
     none-out w =
-        record { parts = (out .parts .0, drop at s, tested-all s (out .parts .1) (nothing-left s at all) (number ∙ w), out .parts .2, out .parts .3, out .parts .4 .fixed) }
+        record { parts = (out .parts .0, drop at s, tested-all s (out .parts .1) (nothing-left s at all) (number ∙ w), out .parts .2, out .parts .3, out .parts .4 .reserved) }
 
     pub one-out : (x ≡ 0 → ⊥) → TestedOut (testedJob s) (NotTested x) (FixedAt n f t u n′ f′ t′ u′)
     one-out w = record { parts = tested-one s (out .parts .1) (nothing-left s at all) number w }

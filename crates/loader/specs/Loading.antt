@@ -3,59 +3,38 @@ use Prim.Native.Nat.{ℕ}
 use mathlib.Core.Path.{_≡_}
 use mathlib.Core.List.{List, [], _∷_, _++_}
 use mathlib.Core.Bool.{not}
-use lib.Ieee.{Float}
 use lib.ListN.{length, drop, getD}
+use Rattle.lent.specs.Parts.{filled}
 use Rattle.reg_matrix.specs.Lists.{foldl, count, isNil}
 use Rattle.reg_matrix.specs.Table.{freshTable}
-use Rattle.reg_matrix.specs.Layout.{maxEntries, maxFixed, endWords, restWords}
+use Rattle.reg_matrix.specs.Layout.{maxEntries, endWords, restWords}
 use Rattle.reg_matrix.specs.declared.Entry.{Entry}
 use Rattle.job.specs.declared.JobHeader.{JobHeader}
-use Rattle.job.specs.Model.{Job}
+use Rattle.job.specs.Model.{Job, zeroWeight}
 use Rattle.job.specs.Parser.{Parser, Parsed, refused, parsed, _>>=_, _>>_, done, refuse, rest}
 use Rattle.job.specs.Load.{jobFields, twin, mixedSet, cutUse, Loaded, notLoaded, loaded, loadWith}
-use Rattle.job.specs.Layout.{JobBuffers, jobBuffers, loadLimits, headerOf}
+use Rattle.job.specs.Layout.{JobSlices, jobSlices, loadLimits, headerOf}
 use Rattle.matrix.specs.Reserving.{Lain, reserving}
 use Rattle.fields.specs.declared.whole.TableSizes.{TableSizes}
-use Rattle.reader.specs.Read.{Laid}
-use Rattle.fields.specs.Whole.{SizesOf}
+use Rattle.fields.specs.Whole.{JobAt, SizesOf}
 use Rattle.loader.specs.declared.load.JobTested.{JobTested}
 use Rattle.loader.specs.declared.load.JobTested.the-variants.{Is as IsTested, Refused as NotTested}
 use Rattle.loader.specs.declared.load.JobLoaded.{JobLoaded}
 use Rattle.loader.specs.declared.load.JobLoaded.the-variants.{Is, Refused}
 
--- ---- what is lent: the job's buffers in the order of their limits, and the table's two
-
-abbrev pub jobLent : List ℕ → List ℕ → List ℕ → List ℕ → List ℕ → List ℕ → List Float → List ℕ → List ℕ → List ℕ → List Float → List ℕ → List ℕ → List ℕ → List ℕ → JobBuffers
-jobLent r cs cr fu c vs sw z hs hr hw ss f t v =
-    record {
-      regs = r;
-      classStarts = cs;
-      classRegs = cr;
-      fixedUses = fu;
-      classes = c;
-      valueSets = vs;
-      spillWeights = sw;
-      sizes = z;
-      hintStarts = hs;
-      hintRegs = hr;
-      hintWeights = hw;
-      segmentStarts = ss;
-      froms = f;
-      tos = t;
-      values = v;
-    }
+-- ---- what is lent: the job's slices in the order of their limits, and the table's two
 
 pub record Lent : Type 0 where
-  pub job : JobBuffers
+  pub job : JobSlices
   pub ends : List ℕ
   pub rests : List ℕ
 
-abbrev pub lent : JobBuffers → List ℕ → List ℕ → Lent
+abbrev pub lent : JobSlices → List ℕ → List ℕ → Lent
 lent b es rs = record { job = b; ends = es; rests = rs }
 
 abbrev pub sizesOf : Lent → List ℕ
 sizesOf b =
-    length (b .job .regs) ∷ length (b .job .classStarts) ∷ length (b .job .classRegs) ∷ length (b .job .fixedUses) ∷ length (b .job .classes) ∷ length (b .job .valueSets) ∷ length (b .job .spillWeights) ∷ length (b .job .sizes) ∷ length (b .job .hintStarts) ∷ length (b .job .hintRegs) ∷ length (b .job .hintWeights) ∷ length (b .job .segmentStarts) ∷ length (b .job .froms) ∷ length (b .job .tos) ∷ length (b .job .values) ∷ length (b .ends) ∷ length (b .rests) ∷ []
+    length (b .job .job64) ∷ length (b .job .job32) ∷ length (b .job .job16) ∷ length (b .job .job8) ∷ length (b .job .weights) ∷ length (b .ends) ∷ length (b .rests) ∷ []
 
 -- ---- the first reading
 
@@ -80,25 +59,20 @@ pub record TestedOut (p : Parsed Job) (r : JobTested) (fixed : List Entry → Ty
 
 -- ---- the second reading
 
-pub record JobLaid (j : Job) (b b′ : JobBuffers) : Type 0 where
-  pub regs : Laid (b .regs) (jobBuffers j .regs) (b′ .regs)
-  pub classStarts : Laid (b .classStarts) (jobBuffers j .classStarts) (b′ .classStarts)
-  pub classRegs : Laid (b .classRegs) (jobBuffers j .classRegs) (b′ .classRegs)
-  pub classes : Laid (b .classes) (jobBuffers j .classes) (b′ .classes)
-  pub valueSets : Laid (b .valueSets) (jobBuffers j .valueSets) (b′ .valueSets)
-  pub spillWeights : Laid (b .spillWeights) (jobBuffers j .spillWeights) (b′ .spillWeights)
-  pub sizes : Laid (b .sizes) (jobBuffers j .sizes) (b′ .sizes)
-  pub hintStarts : Laid (b .hintStarts) (jobBuffers j .hintStarts) (b′ .hintStarts)
-  pub hintRegs : Laid (b .hintRegs) (jobBuffers j .hintRegs) (b′ .hintRegs)
-  pub hintWeights : Laid (b .hintWeights) (jobBuffers j .hintWeights) (b′ .hintWeights)
-  pub segmentStarts : Laid (b .segmentStarts) (jobBuffers j .segmentStarts) (b′ .segmentStarts)
-  pub froms : Laid (b .froms) (jobBuffers j .froms) (b′ .froms)
-  pub tos : Laid (b .tos) (jobBuffers j .tos) (b′ .tos)
-  pub values : Laid (b .values) (jobBuffers j .values) (b′ .values)
+-- zeros where a job is laid out, but for its fixed uses
+abbrev pub cleared : JobSlices → JobSlices
+cleared B =
+    record {
+      job64 = filled 64 0 (B .job64);
+      job32 = filled 1536 0 (B .job32);
+      job16 = filled 2067 0 (B .job16);
+      job8 = filled 2560 0 (B .job8);
+      weights = filled 1536 zeroWeight (B .weights);
+    }
 
--- where the bytes are a job's, and header and sizes are the job's, every table is laid out and padded to its limit
-pub record Stores (s : List ℕ) (h : JobHeader) (z : TableSizes) (b b′ : JobBuffers) : Type 0 where
-  pub laid : (j : Job) (t : List ℕ) → jobFields s ≡ parsed j t → h ≡ headerOf j → SizesOf z j → JobLaid j b b′
+-- where the bytes are a job's, its tables are stored over zeros
+pub record Stores (s : List ℕ) (B B′ : JobSlices) : Type 0 where
+  pub stored : (j : Job) (t : List ℕ) → jobFields s ≡ parsed j t → JobAt (cleared B) B′ (λ es. Unit {0}) j
 
 -- ---- the fixed reservations
 
@@ -108,26 +82,16 @@ reservingAll units froms tos uses n l = foldl (λ l k. reserving (getD units k 0
 
 -- ---- loading
 
--- what loading the job leaves in what was lent: its layout, and the tail of a longer buffer
+-- what loading the job leaves in what was lent: its layout, and the tail of a longer slice
 unfoldable pub later : Job → Lent → Lent
 later j b =
     lent
     (record {
-      regs = jobBuffers j .regs ++ drop 64 (b .job .regs);
-      classStarts = jobBuffers j .classStarts ++ drop 17 (b .job .classStarts);
-      classRegs = jobBuffers j .classRegs ++ drop 1024 (b .job .classRegs);
-      fixedUses = jobBuffers j .fixedUses ++ drop maxFixed (b .job .fixedUses);
-      classes = jobBuffers j .classes ++ drop 512 (b .job .classes);
-      valueSets = jobBuffers j .valueSets ++ drop 512 (b .job .valueSets);
-      spillWeights = jobBuffers j .spillWeights ++ drop 512 (b .job .spillWeights);
-      sizes = jobBuffers j .sizes ++ drop 512 (b .job .sizes);
-      hintStarts = jobBuffers j .hintStarts ++ drop 513 (b .job .hintStarts);
-      hintRegs = jobBuffers j .hintRegs ++ drop 1024 (b .job .hintRegs);
-      hintWeights = jobBuffers j .hintWeights ++ drop 1024 (b .job .hintWeights);
-      segmentStarts = jobBuffers j .segmentStarts ++ drop 513 (b .job .segmentStarts);
-      froms = jobBuffers j .froms ++ drop 512 (b .job .froms);
-      tos = jobBuffers j .tos ++ drop 512 (b .job .tos);
-      values = jobBuffers j .values ++ drop 512 (b .job .values);
+      job64 = jobSlices j .job64 ++ drop 576 (b .job .job64);
+      job32 = jobSlices j .job32 ++ drop 1536 (b .job .job32);
+      job16 = jobSlices j .job16 ++ drop 2067 (b .job .job16);
+      job8 = jobSlices j .job8 ++ drop 2560 (b .job .job8);
+      weights = jobSlices j .weights ++ drop 1536 (b .job .weights);
     })
     (endWords (freshTable (j .fixed)) ++ drop maxEntries (b .ends))
     (restWords (freshTable (j .fixed)) ++ drop maxEntries (b .rests))

@@ -1,21 +1,26 @@
 // Loading a job: from any bytes to what a job holds, in lent numbers, or to the number of one refusal. The job is read twice: first into local
 // numbers, so that a refusal leaves what is lent as it was, and then into the lent ones.
 ghost use Prim.Native.Nat.{_≤_};
-ghost use mathlib.Core.List.{[]};
 ghost use lib.ListN.{length};
+ghost use Rattle.job.specs.Layout.{slices};
 ghost use Rattle.reader.specs.Read.{FixedAt};
-ghost use Rattle.loader.specs.Loading.{testedJob, TestedOut, jobLent, Stores, lent, LoadDone};
-use crate::buffers::pad_lists;
-use crate::buffers::pad_regs;
-use crate::buffers::pad_virts;
-use crate::buffers::short_lists;
-use crate::buffers::short_tables;
+ghost use Rattle.loader.specs.Loading.{testedJob, TestedOut, Stores, lent, LoadDone};
+use crate::buffers::clear_job;
+use crate::buffers::is_short;
 use crate::reserve::reserve_all;
 use fields::whole::JobRead;
 use fields::whole::TableSizes;
 use fields::whole::job_fields;
+use job::CLASSES;
 use job::JobHeader;
+use job::SETS;
+use job::TOS;
+use job::USES;
+use job::VALUES;
 use job_tests::tests::whole_refusal;
+use lent::from8;
+use lent::from16;
+use lent::from32;
 
 // What the first reading found: what goes by value of the job, and the sizes of its tables; or a refusal's number.
 pub enum JobTested {
@@ -29,8 +34,8 @@ pub enum JobLoaded {
     Refused(u8),
 }
 
-// Reads the job into local numbers and tests the whole. The fixed reservations stand in the four slices then. What the tests do not ask for is
-// lent one place.
+// Reads the job into local numbers and tests the whole. The fixed reservations stand in the four slices then. Of the job's slices there is only as
+// much as the tests ask for.
 fn tested(
     s: &[u8],
     units: &mut [u8],
@@ -41,40 +46,22 @@ fn tested(
     requires { ⌜ (512 ≤ length (now starts)) × (512 ≤ length (now stops)) × (512 ≤ length (now uses)) ⌝ }
     ensures { λ r. ⌜ TestedOut (testedJob (now (s .entry))) r (FixedAt (now (units .entry)) (now (starts .entry)) (now (stops .entry)) (now (uses .entry)) (now (units .exit)) (now (starts .exit)) (now (stops .exit)) (now (uses .exit))) ⌝ }
 {
-    let mut regs = [0u64; 64];
-    let mut cfirsts = [0u16; 17];
-    let mut members = [0u8; 1024];
-    let mut kinds = [0u8; 512];
-    let mut groups = [0u16; 512];
-    let mut spills = [0.0f32; 1];
-    let mut sizes = [0u32; 1];
-    let mut hfirsts = [0u16; 1];
-    let mut owners = [0u8; 1];
+    let mut job64 = [0u64; 64];
+    let mut job32 = [0u32; 1024];
+    let mut job16 = [0u16; 1041];
+    let mut job8 = [0u8; 1536];
     let mut weights = [0.0f32; 1];
-    let mut gfirsts = [0u16; 1];
-    let mut froms = [0u32; 512];
-    let mut tos = [0u32; 512];
-    let mut values = [0u16; 512];
     match job_fields(
         s,
-        &mut regs,
-        &mut cfirsts,
-        &mut members,
+        &mut job64,
+        &mut job32,
+        &mut job16,
+        &mut job8,
+        &mut weights,
         units,
         starts,
         stops,
         uses,
-        &mut kinds,
-        &mut groups,
-        &mut spills,
-        &mut sizes,
-        &mut hfirsts,
-        &mut owners,
-        &mut weights,
-        &mut gfirsts,
-        &mut froms,
-        &mut tos,
-        &mut values,
     ) {
         JobRead::Refused(n) => JobTested::Refused(n),
         JobRead::Is(h, z, at) => {
@@ -82,14 +69,14 @@ fn tested(
                 return JobTested::Refused(2);
             }
             let n = whole_refusal(
-                &regs,
-                &cfirsts,
-                &members,
-                &kinds,
-                &groups,
-                &froms,
-                &tos,
-                &values,
+                &job64,
+                &job16,
+                &job8,
+                from8(&job8, CLASSES),
+                from16(&job16, SETS),
+                &job32,
+                from32(&job32, TOS),
+                from16(&job16, VALUES),
                 starts,
                 stops,
                 uses,
@@ -107,103 +94,58 @@ fn tested(
     }
 }
 
-// Reads the job again, into the lent numbers, and pads each table to its limit. The fixed reservations go elsewhere.
+// Reads the job again, into the lent numbers, where zeros stand behind each of its lists. The fixed reservations go elsewhere.
 fn store_job(
     s: &[u8],
-    h: JobHeader,
-    z: TableSizes,
-    regs: &mut [u64],
-    cfirsts: &mut [u16],
-    members: &mut [u8],
-    kinds: &mut [u8],
-    groups: &mut [u16],
-    spills: &mut [f32],
-    sizes: &mut [u32],
-    hfirsts: &mut [u16],
-    owners: &mut [u8],
+    job64: &mut [u64],
+    job32: &mut [u32],
+    job16: &mut [u16],
+    job8: &mut [u8],
     weights: &mut [f32],
-    gfirsts: &mut [u16],
-    froms: &mut [u32],
-    tos: &mut [u32],
-    values: &mut [u16],
 )
-    ensures { λ r. ⌜ Stores (now (s .entry)) h z (jobLent (now (regs .entry)) (now (cfirsts .entry)) (now (members .entry)) [] (now (kinds .entry)) (now (groups .entry)) (now (spills .entry)) (now (sizes .entry)) (now (hfirsts .entry)) (now (owners .entry)) (now (weights .entry)) (now (gfirsts .entry)) (now (froms .entry)) (now (tos .entry)) (now (values .entry))) (jobLent (now (regs .exit)) (now (cfirsts .exit)) (now (members .exit)) [] (now (kinds .exit)) (now (groups .exit)) (now (spills .exit)) (now (sizes .exit)) (now (hfirsts .exit)) (now (owners .exit)) (now (weights .exit)) (now (gfirsts .exit)) (now (froms .exit)) (now (tos .exit)) (now (values .exit))) ⌝ }
+    ensures { λ r. ⌜ Stores (now (s .entry)) (slices (now (job64 .entry)) (now (job32 .entry)) (now (job16 .entry)) (now (job8 .entry)) (now (weights .entry))) (slices (now (job64 .exit)) (now (job32 .exit)) (now (job16 .exit)) (now (job8 .exit)) (now (weights .exit))) ⌝ }
 {
     let mut units = [0u8; 1];
     let mut starts = [0u32; 1];
     let mut stops = [0u32; 1];
     let mut uses = [0u32; 1];
+    clear_job(job64, job32, job16, job8, weights);
     job_fields(
         s,
-        regs,
-        cfirsts,
-        members,
+        job64,
+        job32,
+        job16,
+        job8,
+        weights,
         &mut units,
         &mut starts,
         &mut stops,
         &mut uses,
-        kinds,
-        groups,
-        spills,
-        sizes,
-        hfirsts,
-        owners,
-        weights,
-        gfirsts,
-        froms,
-        tos,
-        values,
     );
-    pad_regs(regs, cfirsts, members, h.regs, h.classes, z.class_regs);
-    pad_virts(kinds, groups, spills, sizes, hfirsts, gfirsts, h.virt_regs);
-    pad_lists(owners, weights, froms, tos, values, z.hints, z.segments);
 }
 
 // Loads the job of these bytes: tests the sizes lent (15), the job's length (4), its fields in byte order, and the whole (2, 10, 11, 12). What is
 // lent takes the layout of the job and of its fresh table; a refusal leaves it as it was.
 pub fn load(
     s: &[u8],
-    regs: &mut [u64],
-    cfirsts: &mut [u16],
-    members: &mut [u8],
-    words: &mut [u64],
-    kinds: &mut [u8],
-    groups: &mut [u16],
-    spills: &mut [f32],
-    sizes: &mut [u32],
-    hfirsts: &mut [u16],
-    owners: &mut [u8],
+    job64: &mut [u64],
+    job32: &mut [u32],
+    job16: &mut [u16],
+    job8: &mut [u8],
     weights: &mut [f32],
-    gfirsts: &mut [u16],
-    froms: &mut [u32],
-    tos: &mut [u32],
-    values: &mut [u16],
     ends: &mut [u64],
     rests: &mut [u64],
 ) -> JobLoaded
-    ensures { λ r. ⌜ LoadDone (now (s .entry)) (lent (jobLent (now (regs .entry)) (now (cfirsts .entry)) (now (members .entry)) (now (words .entry)) (now (kinds .entry)) (now (groups .entry)) (now (spills .entry)) (now (sizes .entry)) (now (hfirsts .entry)) (now (owners .entry)) (now (weights .entry)) (now (gfirsts .entry)) (now (froms .entry)) (now (tos .entry)) (now (values .entry))) (now (ends .entry)) (now (rests .entry))) (lent (jobLent (now (regs .exit)) (now (cfirsts .exit)) (now (members .exit)) (now (words .exit)) (now (kinds .exit)) (now (groups .exit)) (now (spills .exit)) (now (sizes .exit)) (now (hfirsts .exit)) (now (owners .exit)) (now (weights .exit)) (now (gfirsts .exit)) (now (froms .exit)) (now (tos .exit)) (now (values .exit))) (now (ends .exit)) (now (rests .exit))) r ⌝ }
+    ensures { λ r. ⌜ LoadDone (now (s .entry)) (lent (slices (now (job64 .entry)) (now (job32 .entry)) (now (job16 .entry)) (now (job8 .entry)) (now (weights .entry))) (now (ends .entry)) (now (rests .entry))) (lent (slices (now (job64 .exit)) (now (job32 .exit)) (now (job16 .exit)) (now (job8 .exit)) (now (weights .exit))) (now (ends .exit)) (now (rests .exit))) r ⌝ }
 {
-    let rest = short_lists(
-        hfirsts.len(),
-        owners.len(),
+    if is_short(
+        job64.len(),
+        job32.len(),
+        job16.len(),
+        job8.len(),
         weights.len(),
-        gfirsts.len(),
-        froms.len(),
-        tos.len(),
-        values.len(),
         ends.len(),
         rests.len(),
-    );
-    if short_tables(
-        regs.len(),
-        cfirsts.len(),
-        members.len(),
-        words.len(),
-        kinds.len(),
-        groups.len(),
-        spills.len(),
-        sizes.len(),
-        rest,
     ) {
         return JobLoaded::Refused(15);
     }
@@ -217,26 +159,17 @@ pub fn load(
     match tested(s, &mut units, &mut starts, &mut stops, &mut uses) {
         JobTested::Refused(n) => JobLoaded::Refused(n),
         JobTested::Is(h, z) => {
-            store_job(
-                s,
-                h,
-                z,
-                regs,
-                cfirsts,
-                members,
-                kinds,
-                groups,
-                spills,
-                sizes,
-                hfirsts,
-                owners,
-                weights,
-                gfirsts,
-                froms,
-                tos,
-                values,
+            store_job(s, job64, job32, job16, job8, weights);
+            reserve_all(
+                ends,
+                rests,
+                &mut job64[USES..],
+                &units,
+                &starts,
+                &stops,
+                &uses,
+                z.fixed,
             );
-            reserve_all(ends, rests, words, &units, &starts, &stops, &uses, z.fixed);
             JobLoaded::Is(h)
         }
     }

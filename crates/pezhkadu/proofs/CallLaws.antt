@@ -15,7 +15,7 @@ use Rattle.reg_matrix.specs.Refusals.{shortBuffer}
 use Rattle.reg_matrix.proofs.Places.{from-zero, count-length}
 use Rattle.reg_matrix.specs.Lists.{count}
 use Rattle.job.specs.Model.{Job}
-use Rattle.job.specs.Layout.{JobBuffers, headerOf}
+use Rattle.job.specs.Layout.{JobSlices, headerOf}
 use Rattle.job.specs.declared.JobHeader.{JobHeader}
 use Rattle.allocator.specs.declared.Assignment.{Assignment}
 use Rattle.allocator.specs.declared.Assignment.the-variants.{Assigned, Unassigned, Dead}
@@ -77,7 +77,7 @@ tail-kept rs ws n l =
     ∙ drop-at (map recordWord rs) (drop (0 + length (map recordWord rs)) ws) 512 size
     ∙ ap (λ (k : ℕ). drop k ws) size′
 
-module _ (own : Bool) (head : List ℕ) (B : JobBuffers) (c : Call) (S : StateBuffers) (ws : List ℕ) where
+module _ (own : Bool) (head : List ℕ) (B : JobSlices) (c : Call) (S : StateBuffers) (ws : List ℕ) where
   -- firmware's own words are short
   pub own-short : own ≡ true → Called own head B c S ws S ws 15
   own-short e =

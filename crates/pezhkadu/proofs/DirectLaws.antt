@@ -15,7 +15,7 @@ use borrow.Author.Tests.{lt-ltb, le-ltb, le-leb, ltb-true, ltb-false}
 use Rattle.reg_matrix.specs.Lists.{isNil}
 use Rattle.reg_matrix.specs.Refusals.{refusal, shortBuffer}
 use Rattle.job.specs.Model.{Job}
-use Rattle.job.specs.Layout.{JobBuffers, headerOf}
+use Rattle.job.specs.Layout.{JobSlices, headerOf}
 use Rattle.job.specs.declared.JobHeader.{JobHeader}
 use Rattle.allocator.specs.declared.Assignment.{Assignment}
 use Rattle.allocator.specs.State.{State, recordOf, checkOf}
@@ -195,7 +195,7 @@ module _ (j : Job) (s : State) (reach : Reached j s) (sizes : List ℕ) where
 
 -- a call that met its contract met that of one that does the same
 recalled :
-    (header : JobHeader) (B : JobBuffers) (c c′ : Call) (S : StateBuffers) (rs : List Assignment) (S′ : StateBuffers) (rs′ : List Assignment) (n : ℕ)
+    (header : JobHeader) (B : JobSlices) (c c′ : Call) (S : StateBuffers) (rs : List Assignment) (S′ : StateBuffers) (rs′ : List Assignment) (n : ℕ)
     → ((j : Job) (s : State) → Reached j s → Same j s c c′)
     → calling.Called header B c S rs S′ rs′ n
     → calling.Called header B c′ S rs S′ rs′ n
@@ -212,7 +212,7 @@ recalled header B c c′ S rs S′ rs′ n same d =
 
 -- ---- a placement
 
-module _ (head : List ℕ) (B : JobBuffers) (v r bits : ℕ) (S : StateBuffers) (ws : List ℕ) where
+module _ (head : List ℕ) (B : JobSlices) (v r bits : ℕ) (S : StateBuffers) (ws : List ℕ) where
   -- the call
   abbrev asked : Call
   asked = placing (sizesOf B S) v r (ofBits binary32 bits)
@@ -253,7 +253,7 @@ module _ (head : List ℕ) (B : JobBuffers) (v r bits : ℕ) (S : StateBuffers) 
 
 -- ---- an eviction
 
-module _ (head : List ℕ) (B : JobBuffers) (v : ℕ) (S : StateBuffers) (ws answer : List ℕ) where
+module _ (head : List ℕ) (B : JobSlices) (v : ℕ) (S : StateBuffers) (ws answer : List ℕ) where
   abbrev sought : Call
   sought = evicting (sizesOf B S) v
 

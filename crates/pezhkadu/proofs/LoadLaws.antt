@@ -9,7 +9,7 @@ use lib.Seq.{sets}
 use borrow.Author.Tests.{lt-ltb, le-ltb}
 use Rattle.job.specs.Model.{Job}
 use Rattle.job.specs.Load.{Loaded, notLoaded, loaded}
-use Rattle.job.specs.Layout.{JobBuffers, headerOf}
+use Rattle.job.specs.Layout.{JobSlices, headerOf}
 use Rattle.job.specs.declared.JobHeader.{JobHeader}
 use Rattle.allocator.specs.declared.Assignment.{Assignment}
 use Rattle.allocator.specs.Layout.{StateBuffers}
@@ -34,7 +34,7 @@ abbrev headerAs : JobHeader → JobLoaded → JobHeader
 headerAs d (Is h) = h
 headerAs d (Refused n) = d
 
-module _ (bytes head ws : List ℕ) (B : JobBuffers) (S : StateBuffers) where
+module _ (bytes head ws : List ℕ) (B : JobSlices) (S : StateBuffers) where
   too-short : loadShort head ws ≡ true → LoadCalled bytes head ws B S head ws B S 15
   too-short e = record { parts = rw e (refl, refl, refl, refl, refl) }
 
@@ -44,7 +44,7 @@ module _ (bytes head ws : List ℕ) (B : JobBuffers) (S : StateBuffers) where
   pub records-short : 8 ≤ length head → length ws < 512 → LoadCalled bytes head ws B S head ws B S 15
   records-short l h = too-short (ap (λ (b : Bool). b || ltb (length ws) 512) (le-ltb _ _ l) ∙ lt-ltb _ _ h)
 
-  module _ (l : 8 ≤ length head) (k : 512 ≤ length ws) (B′ : JobBuffers) (S′ : StateBuffers) (r : JobLoaded) (d : StageLoadDone bytes B S B′ S′ r) where
+  module _ (l : 8 ≤ length head) (k : 512 ≤ length ws) (B′ : JobSlices) (S′ : StateBuffers) (r : JobLoaded) (d : StageLoadDone bytes B S B′ S′ r) where
     long : loadShort head ws ≡ false
     long = ap (λ (b : Bool). b || ltb (length ws) 512) (le-ltb _ _ l) ∙ le-ltb _ _ k
 

@@ -16,7 +16,7 @@ use Rattle.reg_matrix.specs.declared.ValueSegment.{ValueSegment}
 use Rattle.reg_matrix.proofs.Places.{replicate-default, from-zero, count-length}
 use Rattle.job.specs.Model.{Job}
 use Rattle.job.specs.Load.{Bytes, Loaded, notLoaded, loaded}
-use Rattle.job.specs.Layout.{JobBuffers, probeOf, headerOf}
+use Rattle.job.specs.Layout.{JobSlices, probeOf, headerOf}
 use Rattle.job.specs.declared.JobHeader.{JobHeader}
 use Rattle.job.specs.declared.Probe.{Probe}
 use Rattle.job.specs.declared.Probe.the-variants.{Over, NoProbe}
@@ -119,7 +119,7 @@ long-both head ws e = go (ltb (length head) 8) (ltb (length ws) 512) refl refl e
 
 -- a job that loads is left as calls ask for it
 pub loaded-stands :
-    (bytes head ws : List ℕ) (B : JobBuffers) (S : StateBuffers) (head′ ws′ : List ℕ) (B′ : JobBuffers) (S′ : StateBuffers) (n : ℕ)
+    (bytes head ws : List ℕ) (B : JobSlices) (S : StateBuffers) (head′ ws′ : List ℕ) (B′ : JobSlices) (S′ : StateBuffers) (n : ℕ)
     → Bytes bytes
     → loadShort head ws ≡ false
     → (j : Job)
@@ -149,7 +149,7 @@ loaded-stands bytes head ws B S head′ ws′ B′ S′ n are-bytes long j q d =
 
 -- the answer 0 says that it loaded
 pub answered-0 :
-    (bytes head ws : List ℕ) (B : JobBuffers) (S : StateBuffers) (head′ ws′ : List ℕ) (B′ : JobBuffers) (S′ : StateBuffers) (n : ℕ)
+    (bytes head ws : List ℕ) (B : JobSlices) (S : StateBuffers) (head′ ws′ : List ℕ) (B′ : JobSlices) (S′ : StateBuffers) (n : ℕ)
     → Bytes bytes
     → LoadCalled bytes head ws B S head′ ws′ B′ S′ n
     → n ≡ 0

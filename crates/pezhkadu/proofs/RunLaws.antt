@@ -8,7 +8,7 @@ use lib.Dec.{ltb}
 use lib.ListN.{length, set}
 use lib.Seq.{sets}
 use borrow.Author.Tests.{lt-ltb, le-ltb}
-use Rattle.job.specs.Layout.{JobBuffers}
+use Rattle.job.specs.Layout.{JobSlices}
 use Rattle.allocator.specs.declared.Assignment.{Assignment}
 use Rattle.allocator.specs.Layout.{StateBuffers}
 use Rattle.calls.specs.Calling as calling
@@ -17,7 +17,7 @@ use Rattle.pezhkadu.specs.Words.{headerIn}
 use Rattle.pezhkadu.specs.Calling.{Called, RunCalled, runShort}
 use Rattle.pezhkadu.proofs.CallLaws.{own-short, call-refused, call-done}
 
-module _ (B : JobBuffers) (budget : ℕ) (S : StateBuffers) (ws answer : List ℕ) where
+module _ (B : JobSlices) (budget : ℕ) (S : StateBuffers) (ws answer : List ℕ) where
   too-short : runShort ws answer ≡ true → RunCalled B budget S ws answer S ws answer 15
   too-short e =
       record { called = λ head. own-short _ head B _ S ws e; no-answer = λ n. refl; answered = λ j s t reach job st z. absurd (omega (arith, z)) }

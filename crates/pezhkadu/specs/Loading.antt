@@ -8,7 +8,7 @@ use lib.ListN.{length}
 use lib.Seq.{sets}
 use Rattle.job.specs.Model.{Job}
 use Rattle.job.specs.Load.{Loaded, notLoaded, loaded}
-use Rattle.job.specs.Layout.{JobBuffers, headerOf}
+use Rattle.job.specs.Layout.{JobSlices, headerOf, listsIn}
 use Rattle.allocator.specs.State.{freshState}
 use Rattle.allocator.specs.Layout.{StateBuffers}
 use Rattle.allocator.specs.Calls.{load}
@@ -25,7 +25,7 @@ abbrev pub loadShort : List ℕ → List ℕ → Bool
 loadShort head ws = ltb (length head) headerLimit || ltb (length ws) recordsLimit
 
 -- a refusal leaves all as it was; else the header, the first records, the job and the fresh state stand there, and the tail of every longer slice
-abbrev pub LoadParts : List ℕ → List ℕ → JobBuffers → StateBuffers → List ℕ → List ℕ → JobBuffers → StateBuffers → ℕ → Loaded → Type 0
+abbrev pub LoadParts : List ℕ → List ℕ → JobSlices → StateBuffers → List ℕ → List ℕ → JobSlices → StateBuffers → ℕ → Loaded → Type 0
 LoadParts head ws B S head′ ws′ B′ S′ n (notLoaded m) = (n ≡ m) × (head′ ≡ head) × (ws′ ≡ ws) × (B′ ≡ B) × (S′ ≡ S)
 LoadParts head ws B S head′ ws′ B′ S′ n (loaded j) =
     (n ≡ 0)
@@ -35,14 +35,14 @@ LoadParts head ws B S head′ ws′ B′ S′ n (loaded j) =
     × (S′ ≡ laterState j S)
 
 -- loading the bytes answers n and leaves these
-pub record LoadCalled (bytes head ws : List ℕ) (B : JobBuffers) (S : StateBuffers) (head′ ws′ : List ℕ) (B′ : JobBuffers) (S′ : StateBuffers) (n : ℕ) : Type 0 where
+pub record LoadCalled (bytes head ws : List ℕ) (B : JobSlices) (S : StateBuffers) (head′ ws′ : List ℕ) (B′ : JobSlices) (S′ : StateBuffers) (n : ℕ) : Type 0 where
   pub parts : LoadParts head ws B S head′ ws′ B′ S′ n (cond (loadShort head ws) (notLoaded 15) (load (sizesOf B S) bytes))
 
 -- what every call asks of what is lent, as a load leaves it: so a load, and then any calls, each on what the last one left
-pub record JustLoaded (head ws : List ℕ) (B : JobBuffers) (S : StateBuffers) : Type 0 where
+pub record JustLoaded (head ws : List ℕ) (B : JobSlices) (S : StateBuffers) : Type 0 where
   pub job : Job
   pub reached : Reached job (freshState job)
-  pub job-stands : JobStands job B
+  pub job-stands : JobStands job (listsIn B)
   pub header-is : headerIn head ≡ headerOf job
   pub behind : StateBuffers
   pub fresh : StateStands job (freshState job) behind S (recordsIn ws)

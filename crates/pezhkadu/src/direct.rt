@@ -1,7 +1,8 @@
 // Direct placements and evictions over a header and records that stand in lent words.
 ghost use mathlib.Core.Path.{_≡_};
 ghost use lib.Ieee.{binary32, ofBits};
-ghost use Rattle.context.specs.Running.{lentJob, lentState};
+ghost use Rattle.job.specs.Layout.{slices};
+ghost use Rattle.context.specs.Running.{lentState};
 ghost use Rattle.allocator.specs.Calls.{placing};
 ghost use Rattle.calls.specs.Calling.{sizesOf};
 ghost use Rattle.pezhkadu.specs.Calling.{Called, assignShort, EvictCalled};
@@ -23,27 +24,17 @@ pub extern "C" fn pezhkadu_assign(
     v: u64,
     reg: u64,
     weight: u64,
-    maps: &[u64],
-    class_starts: &[u16],
-    class_regs: &[u8],
-    uses: &[u64],
-    classes: &[u8],
-    sets: &[u16],
-    spills: &[f32],
-    sizes: &[u32],
-    hint_starts: &[u16],
-    hint_regs: &[u8],
-    hint_weights: &[f32],
-    segment_starts: &[u16],
-    froms: &[u32],
-    tos: &[u32],
-    values: &[u16],
+    job64: &[u64],
+    job32: &[u32],
+    job16: &[u16],
+    job8: &[u8],
+    weights: &[f32],
     ends: &mut [u64],
     rests: &mut [u64],
     queue: &mut [u64],
     last: &mut [u8],
 ) -> u64
-    ensures { λ r. ⌜ Called (assignShort (now (header .entry)) (now (records .entry))) (now (header .entry)) (lentJob (now (maps .entry)) (now («class_starts» .entry)) (now («class_regs» .entry)) (now (uses .entry)) (now (classes .entry)) (now (sets .entry)) (now (spills .entry)) (now (sizes .entry)) (now («hint_starts» .entry)) (now («hint_regs» .entry)) (now («hint_weights» .entry)) (now («segment_starts» .entry)) (now (froms .entry)) (now (tos .entry)) (now (values .entry))) (placing (sizesOf (lentJob (now (maps .entry)) (now («class_starts» .entry)) (now («class_regs» .entry)) (now (uses .entry)) (now (classes .entry)) (now (sets .entry)) (now (spills .entry)) (now (sizes .entry)) (now («hint_starts» .entry)) (now («hint_regs» .entry)) (now («hint_weights» .entry)) (now («segment_starts» .entry)) (now (froms .entry)) (now (tos .entry)) (now (values .entry))) (lentState (now (ends .entry)) (now (rests .entry)) (now (queue .entry)) (now (last .entry)))) v reg (ofBits binary32 weight)) (lentState (now (ends .entry)) (now (rests .entry)) (now (queue .entry)) (now (last .entry))) (now (records .entry)) (lentState (now (ends .exit)) (now (rests .exit)) (now (queue .exit)) (now (last .exit))) (now (records .exit)) r ⌝ }
+    ensures { λ r. ⌜ Called (assignShort (now (header .entry)) (now (records .entry))) (now (header .entry)) (slices (now (job64 .entry)) (now (job32 .entry)) (now (job16 .entry)) (now (job8 .entry)) (now (weights .entry))) (placing (sizesOf (slices (now (job64 .entry)) (now (job32 .entry)) (now (job16 .entry)) (now (job8 .entry)) (now (weights .entry))) (lentState (now (ends .entry)) (now (rests .entry)) (now (queue .entry)) (now (last .entry)))) v reg (ofBits binary32 weight)) (lentState (now (ends .entry)) (now (rests .entry)) (now (queue .entry)) (now (last .entry))) (now (records .entry)) (lentState (now (ends .exit)) (now (rests .exit)) (now (queue .exit)) (now (last .exit))) (now (records .exit)) r ⌝ }
 {
     if header.len() < 8 {
         return 15;
@@ -60,21 +51,11 @@ pub extern "C" fn pezhkadu_assign(
         cut16(v),
         cut8(reg),
         cut32(weight),
-        maps,
-        class_starts,
-        class_regs,
-        uses,
-        classes,
-        sets,
-        spills,
-        sizes,
-        hint_starts,
-        hint_regs,
-        hint_weights,
-        segment_starts,
-        froms,
-        tos,
-        values,
+        job64,
+        job32,
+        job16,
+        job8,
+        weights,
         ends,
         rests,
         queue,
@@ -95,28 +76,18 @@ pub extern "C" fn pezhkadu_evict(
     header: &[u64],
     records: &mut [u64],
     v: u64,
-    maps: &[u64],
-    class_starts: &[u16],
-    class_regs: &[u8],
-    uses: &[u64],
-    classes: &[u8],
-    sets: &[u16],
-    spills: &[f32],
-    sizes: &[u32],
-    hint_starts: &[u16],
-    hint_regs: &[u8],
-    hint_weights: &[f32],
-    segment_starts: &[u16],
-    froms: &[u32],
-    tos: &[u32],
-    values: &[u16],
+    job64: &[u64],
+    job32: &[u32],
+    job16: &[u16],
+    job8: &[u8],
+    weights: &[f32],
     ends: &mut [u64],
     rests: &mut [u64],
     queue: &mut [u64],
     last: &[u8],
     answer: &mut [u64],
 ) -> u64
-    ensures { λ r. ⌜ EvictCalled (now (header .entry)) (lentJob (now (maps .entry)) (now («class_starts» .entry)) (now («class_regs» .entry)) (now (uses .entry)) (now (classes .entry)) (now (sets .entry)) (now (spills .entry)) (now (sizes .entry)) (now («hint_starts» .entry)) (now («hint_regs» .entry)) (now («hint_weights» .entry)) (now («segment_starts» .entry)) (now (froms .entry)) (now (tos .entry)) (now (values .entry))) v (lentState (now (ends .entry)) (now (rests .entry)) (now (queue .entry)) (now (last .entry))) (now (records .entry)) (now (answer .entry)) (lentState (now (ends .exit)) (now (rests .exit)) (now (queue .exit)) (now (last .entry))) (now (records .exit)) (now (answer .exit)) r ⌝ }
+    ensures { λ r. ⌜ EvictCalled (now (header .entry)) (slices (now (job64 .entry)) (now (job32 .entry)) (now (job16 .entry)) (now (job8 .entry)) (now (weights .entry))) v (lentState (now (ends .entry)) (now (rests .entry)) (now (queue .entry)) (now (last .entry))) (now (records .entry)) (now (answer .entry)) (lentState (now (ends .exit)) (now (rests .exit)) (now (queue .exit)) (now (last .entry))) (now (records .exit)) (now (answer .exit)) r ⌝ }
 {
     if header.len() < 8 {
         return 15;
@@ -135,21 +106,11 @@ pub extern "C" fn pezhkadu_evict(
         before,
         known,
         cut16(v),
-        maps,
-        class_starts,
-        class_regs,
-        uses,
-        classes,
-        sets,
-        spills,
-        sizes,
-        hint_starts,
-        hint_regs,
-        hint_weights,
-        segment_starts,
-        froms,
-        tos,
-        values,
+        job64,
+        job32,
+        job16,
+        job8,
+        weights,
         ends,
         rests,
         queue,

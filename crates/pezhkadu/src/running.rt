@@ -1,7 +1,8 @@
 // A run over records that stand in lent words.
 ghost use mathlib.Core.Path.{_≡_};
 ghost use lib.ListN.{length};
-ghost use Rattle.context.specs.Running.{lentJob, lentState};
+ghost use Rattle.job.specs.Layout.{slices};
+ghost use Rattle.context.specs.Running.{lentState};
 ghost use Rattle.pezhkadu.specs.Calling.{RunCalled};
 use lent::put;
 use records::read;
@@ -13,28 +14,18 @@ use records::store;
 pub extern "C" fn pezhkadu_run(
     records: &mut [u64],
     budget: u64,
-    maps: &[u64],
-    class_starts: &[u16],
-    class_regs: &[u8],
-    uses: &[u64],
-    classes: &[u8],
-    sets: &[u16],
-    spills: &[f32],
-    sizes: &[u32],
-    hint_starts: &[u16],
-    hint_regs: &[u8],
-    hint_weights: &[f32],
-    segment_starts: &[u16],
-    froms: &[u32],
-    tos: &[u32],
-    values: &[u16],
+    job64: &[u64],
+    job32: &[u32],
+    job16: &[u16],
+    job8: &[u8],
+    weights: &[f32],
     ends: &mut [u64],
     rests: &mut [u64],
     queue: &mut [u64],
     last: &mut [u8],
     answer: &mut [u64],
 ) -> u64
-    ensures { λ r. ⌜ RunCalled (lentJob (now (maps .entry)) (now («class_starts» .entry)) (now («class_regs» .entry)) (now (uses .entry)) (now (classes .entry)) (now (sets .entry)) (now (spills .entry)) (now (sizes .entry)) (now («hint_starts» .entry)) (now («hint_regs» .entry)) (now («hint_weights» .entry)) (now («segment_starts» .entry)) (now (froms .entry)) (now (tos .entry)) (now (values .entry))) budget (lentState (now (ends .entry)) (now (rests .entry)) (now (queue .entry)) (now (last .entry))) (now (records .entry)) (now (answer .entry)) (lentState (now (ends .exit)) (now (rests .exit)) (now (queue .exit)) (now (last .exit))) (now (records .exit)) (now (answer .exit)) r ⌝ }
+    ensures { λ r. ⌜ RunCalled (slices (now (job64 .entry)) (now (job32 .entry)) (now (job16 .entry)) (now (job8 .entry)) (now (weights .entry))) budget (lentState (now (ends .entry)) (now (rests .entry)) (now (queue .entry)) (now (last .entry))) (now (records .entry)) (now (answer .entry)) (lentState (now (ends .exit)) (now (rests .exit)) (now (queue .exit)) (now (last .exit))) (now (records .exit)) (now (answer .exit)) r ⌝ }
 {
     if records.len() < 512 {
         return 15;
@@ -49,21 +40,11 @@ pub extern "C" fn pezhkadu_run(
     let after = calls::runs::run(
         before,
         budget,
-        maps,
-        class_starts,
-        class_regs,
-        uses,
-        classes,
-        sets,
-        spills,
-        sizes,
-        hint_starts,
-        hint_regs,
-        hint_weights,
-        segment_starts,
-        froms,
-        tos,
-        values,
+        job64,
+        job32,
+        job16,
+        job8,
+        weights,
         ends,
         rests,
         queue,

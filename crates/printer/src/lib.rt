@@ -42,21 +42,11 @@ fn write_lines(
 fn write_with(
     fd: i32,
     s: &[u8],
-    maps: &mut [u64],
-    class_starts: &mut [u16],
-    class_regs: &mut [u8],
-    uses: &mut [u64],
-    classes: &mut [u8],
-    sets: &mut [u16],
-    spills: &mut [f32],
-    sizes: &mut [u32],
-    hint_starts: &mut [u16],
-    hint_regs: &mut [u8],
-    hint_weights: &mut [f32],
-    segment_starts: &mut [u16],
-    froms: &mut [u32],
-    tos: &mut [u32],
-    values: &mut [u16],
+    job64: &mut [u64],
+    job32: &mut [u32],
+    job16: &mut [u16],
+    job8: &mut [u8],
+    weights: &mut [f32],
     ends: &mut [u64],
     rests: &mut [u64],
     queue: &mut [u64],
@@ -66,21 +56,11 @@ fn write_with(
 ) {
     match begin(
         s,
-        maps,
-        class_starts,
-        class_regs,
-        uses,
-        classes,
-        sets,
-        spills,
-        sizes,
-        hint_starts,
-        hint_regs,
-        hint_weights,
-        segment_starts,
-        froms,
-        tos,
-        values,
+        job64,
+        job32,
+        job16,
+        job8,
+        weights,
         ends,
         rests,
         queue,
@@ -91,27 +71,17 @@ fn write_with(
             let size = refused(n, line);
             write_front(fd, line, size);
         }
-        Printing::At(position) => write_lines(fd, position, maps, ends, rests, words, line),
+        Printing::At(position) => write_lines(fd, position, job64, ends, rests, words, line),
     }
 }
 
 // Loads and runs the job of these bytes with the job's budget, and writes its sheet, or `refused N` alone. Every byte string has one.
 pub fn write_sheet(fd: i32, s: &[u8]) {
-    let mut maps = [0u64; 64];
-    let mut class_starts = [0u16; 17];
-    let mut class_regs = [0u8; 1024];
-    let mut uses = [0u64; 512];
-    let mut classes = [0u8; 512];
-    let mut sets = [0u16; 512];
-    let mut spills = [0.0f32; 512];
-    let mut sizes = [0u32; 512];
-    let mut hint_starts = [0u16; 513];
-    let mut hint_regs = [0u8; 1024];
-    let mut hint_weights = [0.0f32; 1024];
-    let mut segment_starts = [0u16; 513];
-    let mut froms = [0u32; 512];
-    let mut tos = [0u32; 512];
-    let mut values = [0u16; 512];
+    let mut job64 = [0u64; 576];
+    let mut job32 = [0u32; 1536];
+    let mut job16 = [0u16; 2067];
+    let mut job8 = [0u8; 2560];
+    let mut weights = [0.0f32; 1536];
     let mut ends = [0u64; 2560];
     let mut rests = [0u64; 2560];
     let mut queue = [0u64; 1024];
@@ -121,21 +91,11 @@ pub fn write_sheet(fd: i32, s: &[u8]) {
     write_with(
         fd,
         s,
-        &mut maps,
-        &mut class_starts,
-        &mut class_regs,
-        &mut uses,
-        &mut classes,
-        &mut sets,
-        &mut spills,
-        &mut sizes,
-        &mut hint_starts,
-        &mut hint_regs,
-        &mut hint_weights,
-        &mut segment_starts,
-        &mut froms,
-        &mut tos,
-        &mut values,
+        &mut job64,
+        &mut job32,
+        &mut job16,
+        &mut job8,
+        &mut weights,
         &mut ends,
         &mut rests,
         &mut queue,

@@ -13,7 +13,7 @@ use Rattle.lent.specs.Parts.{part}
 use Rattle.reg_matrix.specs.Lists.{concatMap}
 use Rattle.reg_matrix.specs.Lines.{refusedLine}
 use Rattle.reg_matrix.specs.Layout.{maxEntries}
-use Rattle.job.specs.Layout.{JobBuffers}
+use Rattle.job.specs.Layout.{JobSlices}
 use Rattle.job.specs.declared.Probe.{Probe}
 use Rattle.job.specs.declared.Probe.the-variants.{Over, NoProbe}
 use Rattle.job.specs.declared.JobHeader.{JobHeader}
@@ -180,7 +180,7 @@ after-told c r n after e = sym (ap (afterOf c) e)
 
 -- ---- the whole
 
-module _ (bytes : List ℕ) (B : JobBuffers) (S : StateBuffers) (W : List ℕ) (B′ : JobBuffers) (S′ : StateBuffers) (W′ out out′ : List ℕ) (n : ℕ) (r : Printing) (d : Begun bytes B S W B′ S′ W′ r) where
+module _ (bytes : List ℕ) (B : JobSlices) (S : StateBuffers) (W : List ℕ) (B′ : JobSlices) (S′ : StateBuffers) (W′ out out′ : List ℕ) (n : ℕ) (r : Printing) (d : Begun bytes B S W B′ S′ W′ r) where
   all-printed : n ≡ length (shown r B′ S′ W′) → out′ ≡ sets out 0 (shown r B′ S′ W′) → Printed bytes B S W B′ S′ W′ out out′ n
   all-printed p q =
       record {
@@ -198,8 +198,8 @@ module _ (bytes : List ℕ) (B : JobBuffers) (S : StateBuffers) (W : List ℕ) (
       let e : refusedLine m ≡ shown r B′ S′ W′ = sym (ap (λ (x : Printing). shown x B′ S′ W′) told) in
       all-printed (p ∙ ap (λ (x : List ℕ). length x) e) (q ∙ ap (sets out 0) e)
 
-  pub lines-printed : (c : Listing) → r ≡ At c → LinesPrinted c (lent (B′ .regs) (S′ .ends) (S′ .rests)) W′ out out′ n → Printed bytes B S W B′ S′ W′ out out′ n
+  pub lines-printed : (c : Listing) → r ≡ At c → LinesPrinted c (lent (B′ .job64) (S′ .ends) (S′ .rests)) W′ out out′ n → Printed bytes B S W B′ S′ W′ out out′ n
   unfolding shown
   lines-printed c told k =
-      let e : linesText c (lent (B′ .regs) (S′ .ends) (S′ .rests)) W′ ≡ shown r B′ S′ W′ = sym (ap (λ (x : Printing). shown x B′ S′ W′) told) in
+      let e : linesText c (lent (B′ .job64) (S′ .ends) (S′ .rests)) W′ ≡ shown r B′ S′ W′ = sym (ap (λ (x : Printing). shown x B′ S′ W′) told) in
       all-printed (k .size ∙ ap (λ (x : List ℕ). length x) e) (k .stored ∙ ap (sets out 0) e)

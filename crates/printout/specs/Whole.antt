@@ -7,7 +7,7 @@ use lib.ListN.{length}
 use lib.Seq.{sets}
 use Rattle.reg_matrix.specs.Lists.{concatMap}
 use Rattle.reg_matrix.specs.Refusals.{shortBuffer}
-use Rattle.job.specs.Layout.{JobBuffers}
+use Rattle.job.specs.Layout.{JobSlices}
 use Rattle.allocator.specs.Layout.{StateBuffers}
 use Rattle.allocator.specs.Sheet.{sheetOf, printed}
 use Rattle.listing.specs.declared.Listing.{Listing}
@@ -47,7 +47,7 @@ pub record LinesPrinted (c : Listing) (l : Lent) (words out out′ : List ℕ) (
   pub stored : out′ ≡ sets out 0 (linesText c l words)
 
 -- Of any bytes, with B, S and the words W lent: what is printed, and what stands in the buffers afterwards
-pub record Printed (bytes : List ℕ) (B : JobBuffers) (S : StateBuffers) (W : List ℕ) (B′ : JobBuffers) (S′ : StateBuffers) (W′ out out′ : List ℕ) (n : ℕ) : Type 0 where
+pub record Printed (bytes : List ℕ) (B : JobSlices) (S : StateBuffers) (W : List ℕ) (B′ : JobSlices) (S′ : StateBuffers) (W′ out out′ : List ℕ) (n : ℕ) : Type 0 where
   pub answer : Printing
   pub begun : Begun bytes B S W B′ S′ W′ answer
   -- with the buffers that were lent

@@ -2,7 +2,8 @@
 ghost use mathlib.Core.Path.{_≡_};
 ghost use Prim.Native.Nat.{_+_, _≤_, _<_};
 ghost use lib.ListN.{length};
-ghost use Rattle.context.specs.Running.{lentJob, lentState};
+ghost use Rattle.job.specs.Layout.{slices};
+ghost use Rattle.context.specs.Running.{lentState};
 ghost use Rattle.listing.specs.Texts.{Appended};
 ghost use Rattle.listing.specs.Walk.{lent};
 ghost use Rattle.printout.specs.Whole.{isLine, sizeOf, afterOf, LinesPrinted, Printed};
@@ -104,21 +105,11 @@ fn print_lines(
 // answer is how many bytes that has; what there is no room for is not stored. A refusal leaves everything else as it was.
 pub fn print(
     s: &[u8],
-    maps: &mut [u64],
-    class_starts: &mut [u16],
-    class_regs: &mut [u8],
-    uses: &mut [u64],
-    classes: &mut [u8],
-    sets: &mut [u16],
-    spills: &mut [f32],
-    sizes: &mut [u32],
-    hint_starts: &mut [u16],
-    hint_regs: &mut [u8],
-    hint_weights: &mut [f32],
-    segment_starts: &mut [u16],
-    froms: &mut [u32],
-    tos: &mut [u32],
-    values: &mut [u16],
+    job64: &mut [u64],
+    job32: &mut [u32],
+    job16: &mut [u16],
+    job8: &mut [u8],
+    weights: &mut [f32],
     ends: &mut [u64],
     rests: &mut [u64],
     queue: &mut [u64],
@@ -126,25 +117,15 @@ pub fn print(
     words: &mut [u64],
     out: &mut [u8],
 ) -> usize
-    ensures { λ r. ⌜ Printed (now (s .entry)) (lentJob (now (maps .entry)) (now («class_starts» .entry)) (now («class_regs» .entry)) (now (uses .entry)) (now (classes .entry)) (now (sets .entry)) (now (spills .entry)) (now (sizes .entry)) (now («hint_starts» .entry)) (now («hint_regs» .entry)) (now («hint_weights» .entry)) (now («segment_starts» .entry)) (now (froms .entry)) (now (tos .entry)) (now (values .entry))) (lentState (now (ends .entry)) (now (rests .entry)) (now (queue .entry)) (now (last .entry))) (now (words .entry)) (lentJob (now (maps .exit)) (now («class_starts» .exit)) (now («class_regs» .exit)) (now (uses .exit)) (now (classes .exit)) (now (sets .exit)) (now (spills .exit)) (now (sizes .exit)) (now («hint_starts» .exit)) (now («hint_regs» .exit)) (now («hint_weights» .exit)) (now («segment_starts» .exit)) (now (froms .exit)) (now (tos .exit)) (now (values .exit))) (lentState (now (ends .exit)) (now (rests .exit)) (now (queue .exit)) (now (last .exit))) (now (words .exit)) (now (out .entry)) (now (out .exit)) r ⌝ }
+    ensures { λ r. ⌜ Printed (now (s .entry)) (slices (now (job64 .entry)) (now (job32 .entry)) (now (job16 .entry)) (now (job8 .entry)) (now (weights .entry))) (lentState (now (ends .entry)) (now (rests .entry)) (now (queue .entry)) (now (last .entry))) (now (words .entry)) (slices (now (job64 .exit)) (now (job32 .exit)) (now (job16 .exit)) (now (job8 .exit)) (now (weights .exit))) (lentState (now (ends .exit)) (now (rests .exit)) (now (queue .exit)) (now (last .exit))) (now (words .exit)) (now (out .entry)) (now (out .exit)) r ⌝ }
 {
     match begin(
         s,
-        maps,
-        class_starts,
-        class_regs,
-        uses,
-        classes,
-        sets,
-        spills,
-        sizes,
-        hint_starts,
-        hint_regs,
-        hint_weights,
-        segment_starts,
-        froms,
-        tos,
-        values,
+        job64,
+        job32,
+        job16,
+        job8,
+        weights,
         ends,
         rests,
         queue,
@@ -152,6 +133,6 @@ pub fn print(
         words,
     ) {
         Printing::Refused(n) => refused(n, out),
-        Printing::At(position) => print_lines(position, maps, ends, rests, words, out),
+        Printing::At(position) => print_lines(position, job64, ends, rests, words, out),
     }
 }

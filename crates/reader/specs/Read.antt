@@ -85,10 +85,6 @@ module _ {A : Type 0} where
 pub record Stored {A B : Type 0} (f : A → B) (b : List B) (g : ℕ) (xs : List A) (b′ : List B) : Type 0 where
   pub is : b′ ≡ sets b g (map f xs)
 
--- the slice b, with ys stored from place 0 on
-pub record Laid {A : Type 0} (b ys b′ : List A) : Type 0 where
-  pub is : b′ ≡ sets b 0 ys
-
 -- ---- classes
 
 abbrev pub allMembers : List (List ℕ) → List ℕ
@@ -154,33 +150,8 @@ pub record FixedAt (n f t u n′ f′ t′ u′ : List ℕ) (es : List Entry) : 
 
 -- ---- virtual registers
 
--- the segments stand in three slices from place g on
-pub record SegmentsAt (g : ℕ) (f t v f′ t′ v′ : List ℕ) (ss : List ValueSegment) : Type 0 where
-  pub froms : Stored (λ (x : ValueSegment). x .from) f g ss f′
-  pub tos : Stored (λ (x : ValueSegment). x .to) t g ss t′
-  pub values : Stored (λ (x : ValueSegment). x .value) v g ss v′
-
--- the hints stand in two slices from place h on
-pub record HintsAt (h : ℕ) (r : List ℕ) (w : List Float) (r′ : List ℕ) (w′ : List Float) (hs : List Hint) : Type 0 where
-  pub regs : Stored (λ (x : Hint). x .reg) r h hs r′
-  pub weights : Stored (λ (x : Hint). x .weight) w h hs w′
-
 abbrev pub hintsOfAll : List VirtReg → List Hint
 hintsOfAll = concatMap (λ (v : VirtReg). v .hints)
 
 abbrev pub segmentsOfAll : List VirtReg → List ValueSegment
 segmentsOfAll = concatMap (λ (v : VirtReg). v .segments)
-
-abbrev pub hintStarts : List VirtReg → List ℕ
-hintStarts = startsFrom (λ (v : VirtReg). length (v .hints)) 0
-
-abbrev pub segmentStarts : List VirtReg → List ℕ
-segmentStarts = startsFrom (λ (v : VirtReg). length (v .segments)) 0
-
-pub record VirtsAt (c t : List ℕ) (w : List Float) (z h g c′ t′ : List ℕ) (w′ : List Float) (z′ h′ g′ : List ℕ) (vs : List VirtReg) : Type 0 where
-  pub classes : Stored (λ (v : VirtReg). v .class) c 0 vs c′
-  pub valueSets : Stored (λ (v : VirtReg). v .valueSet) t 0 vs t′
-  pub spillWeights : Stored (λ (v : VirtReg). v .spillWeight) w 0 vs w′
-  pub sizes : Stored (λ (v : VirtReg). v .size) z 0 vs z′
-  pub hints : Stored (λ (x : ℕ). x) h 0 (hintStarts vs) h′
-  pub segments : Stored (λ (x : ℕ). x) g 0 (segmentStarts vs) g′

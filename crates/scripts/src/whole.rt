@@ -25,42 +25,22 @@ fn read_job(left: &mut u64, length: u64, bytes: &mut [u8]) -> bool {
 
 // Loads the job of these bytes into buffers of its own, and makes the calls on it. A refused job prints its refusal alone.
 fn run_job(bytes: &[u8], left: &mut u64, line: &mut [u8]) {
-    let mut maps = [0u64; 64];
-    let mut class_starts = [0u16; 17];
-    let mut class_regs = [0u8; 1024];
-    let mut uses = [0u64; 512];
-    let mut classes = [0u8; 512];
-    let mut sets = [0u16; 512];
-    let mut spills = [0.0f32; 512];
-    let mut sizes = [0u32; 512];
-    let mut hint_starts = [0u16; 513];
-    let mut hint_regs = [0u8; 1024];
-    let mut hint_weights = [0.0f32; 1024];
-    let mut segment_starts = [0u16; 513];
-    let mut froms = [0u32; 512];
-    let mut tos = [0u32; 512];
-    let mut values = [0u16; 512];
+    let mut job64 = [0u64; 576];
+    let mut job32 = [0u32; 1536];
+    let mut job16 = [0u16; 2067];
+    let mut job8 = [0u8; 2560];
+    let mut weights = [0.0f32; 1536];
     let mut ends = [0u64; 2560];
     let mut rests = [0u64; 2560];
     let mut queue = [0u64; 1024];
     let mut last = [0u8; 512];
     match load(
         bytes,
-        &mut maps,
-        &mut class_starts,
-        &mut class_regs,
-        &mut uses,
-        &mut classes,
-        &mut sets,
-        &mut spills,
-        &mut sizes,
-        &mut hint_starts,
-        &mut hint_regs,
-        &mut hint_weights,
-        &mut segment_starts,
-        &mut froms,
-        &mut tos,
-        &mut values,
+        &mut job64,
+        &mut job32,
+        &mut job16,
+        &mut job8,
+        &mut weights,
         &mut ends,
         &mut rests,
         &mut queue,
@@ -76,21 +56,11 @@ fn run_job(bytes: &[u8], left: &mut u64, line: &mut [u8]) {
                 records,
                 header,
                 left,
-                &maps,
-                &class_starts,
-                &class_regs,
-                &uses,
-                &classes,
-                &sets,
-                &spills,
-                &sizes,
-                &hint_starts,
-                &hint_regs,
-                &hint_weights,
-                &segment_starts,
-                &froms,
-                &tos,
-                &values,
+                &job64,
+                &job32,
+                &job16,
+                &job8,
+                &weights,
                 &mut ends,
                 &mut rests,
                 &mut queue,

@@ -7,7 +7,7 @@ use mathlib.Core.List.{List, [], _∷_, _++_, map}
 use mathlib.Core.Option.{Option, none, some}
 use mathlib.Core.Bool.{Bool, true, false, not, _||_, or-true, or-false}
 use lib.Dec.{ltb}
-use lib.ListN.{length, drop, getD, replicate, length-map, length-append, length-replicate, List·getD-eq-default}
+use lib.ListN.{length, drop, getD, replicate, length-drop, length-map, length-append, length-replicate, List·getD-eq-default}
 use lib.Seq.{sets, sets-eq}
 use borrow.Author.Tests.{lt-ltb, le-ltb}
 use Rattle.reg_matrix.specs.Lists.{count, padded}
@@ -17,7 +17,7 @@ use Rattle.reg_matrix.specs.Layout.{maxEntries, endWords, restWords, useWords}
 use Rattle.reg_matrix.proofs.Places.{count-length, from-zero}
 use Rattle.job.specs.Model.{Job, Plain}
 use Rattle.job.specs.Load.{Bytes, wholeJob, Loaded, notLoaded, loaded, loadWith}
-use Rattle.job.specs.Layout.{JobBuffers, jobBuffers, headerOf}
+use Rattle.job.specs.Layout.{JobSlices, jobBuffers, headerOf, listsIn}
 use Rattle.job.specs.declared.JobHeader.{JobHeader}
 use Rattle.allocator.specs.declared.Assignment.{Assignment}
 use Rattle.allocator.specs.declared.Assignment.the-variants.{Dead}
@@ -30,6 +30,7 @@ use Rattle.allocator.specs.Calls.{load, running, refusalOf, carriedOut, after, 
 use Rattle.allocator.specs.Run.{run}
 use Rattle.allocator.specs.Reached.{Reached}
 use Rattle.allocator.specs.Sheet.{sheet, sheetOf, printed}
+use Rattle.allocator.proofs.Loading.{stage-premises}
 use Rattle.allocator.proofs.Good.{good-reached, reached-fresh, reached-run}
 use Rattle.loader.specs.declared.load.JobLoaded.{JobLoaded}
 use Rattle.loader.specs.declared.load.JobLoaded.the-variants.{Is, Refused as NotLoaded}
@@ -60,6 +61,10 @@ module _ {A : Type 0} where
   begins-padded : (n : ℕ) (d : A) (xs ys : List A) → Begins (padded n d xs) ys → n ≤ length ys
   begins-padded n d xs ys b = begins-most n (padded n d xs) ys (padded-most n d xs) b
 
+  -- a list that stands last in a slice
+  behind-padded : (a n : ℕ) (d : A) (xs ys : List A) → 0 < n → Begins (padded n d xs) (drop a ys) → a + n ≤ length ys
+  behind-padded a n d xs ys h b = omega (arith, begins-padded n d xs (drop a ys) b, length-drop a ys)
+
 -- each size is at least its limit
 infixr 20 _and_
 data Long : List ℕ → List ℕ → Type 0 where
@@ -75,26 +80,16 @@ last-length : (s : State) → length (lastWords s) ≡ 512
 unfolding lastWords
 last-length s = length-map (count 0 512) _ ∙ count-length 0 512
 
-stands-long : (j : Job) (s : State) (t : StateBuffers) (B : JobBuffers) (S : StateBuffers) → JobStands j B → Stands j s t (S .ends) (S .rests) (S .queue) (S .last) → shortBuffer stageLimits (sizesOf B S) ≡ false
+stands-long : (j : Job) (s : State) (t : StateBuffers) (B : JobSlices) (S : StateBuffers) → JobStands j (listsIn B) → Stands j s t (S .ends) (S .rests) (S .queue) (S .last) → shortBuffer stageLimits (sizesOf B S) ≡ false
 unfolding jobBuffers useWords endWords restWords
 stands-long j s t B S b st =
     let r = b .reads in
     long-enough (
-    begins-padded 64 _ _ _ (r .regs)
-    and begins-padded 17 _ _ _ (r .classStarts)
-    and begins-padded 1024 _ _ _ (r .classRegs)
-    and begins-padded 512 _ _ _ (r .fixedUses)
-    and begins-padded 512 _ _ _ (r .classes)
-    and begins-padded 512 _ _ _ (r .valueSets)
-    and begins-padded 512 _ _ _ (r .spillWeights)
-    and begins-padded 512 _ _ _ (b .sizes)
-    and begins-padded 513 _ _ _ (r .hintStarts)
-    and begins-padded 1024 _ _ _ (r .hintRegs)
-    and begins-padded 1024 _ _ _ (r .hintWeights)
-    and begins-padded 513 _ _ _ (r .segmentStarts)
-    and begins-padded 512 _ _ _ (r .froms)
-    and begins-padded 512 _ _ _ (r .tos)
-    and begins-padded 512 _ _ _ (r .values)
+    behind-padded 64 512 _ _ (B .job64) (omega arith) (r .fixedUses)
+    and behind-padded 1024 512 _ _ (B .job32) (omega arith) (b .sizes)
+    and behind-padded 1554 513 _ _ (B .job16) (omega arith) (r .segmentStarts)
+    and behind-padded 1536 1024 _ _ (B .job8) (omega arith) (r .hintRegs)
+    and behind-padded 512 1024 _ _ (B .weights) (omega arith) (r .hintWeights)
     and begins-padded maxEntries _ _ _ (t .ends, st .moves .table .ends-are)
     and begins-padded maxEntries _ _ _ (t .rests, st .moves .table .rests-are)
     and begins-most 1024 (queueWords j s) _ (omega (arith, tournament-length j s)) (t .queue, st .moves .queue-is)
@@ -133,7 +128,7 @@ word-back TooMany = refl
 -- ---- a run whose records are stored
 
 pub run-stored :
-    (h : JobHeader) (B : JobBuffers) (S : StateBuffers) (W : List ℕ) (S′ : StateBuffers) (W′ : List ℕ) (c : Listing)
+    (h : JobHeader) (B : JobSlices) (S : StateBuffers) (W : List ℕ) (S′ : StateBuffers) (W′ : List ℕ) (c : Listing)
     (firsts after : List Assignment) (answer ending dequeues : ℕ) (word : Ending)
     → firsts ≡ firstRecords
     → RunCalled B (h .budget) S firsts S′ after answer ending dequeues
@@ -163,7 +158,7 @@ limits-enough : shortBuffer stageLimits stageLimits ≡ false
 unfolding shortBuffer
 limits-enough = refl
 
-module _ (bytes : List ℕ) (B : JobBuffers) (S : StateBuffers) (W : List ℕ) where
+module _ (bytes : List ℕ) (B : JobSlices) (S : StateBuffers) (W : List ℕ) where
   all-short : shortBuffer sheetLimits (sheetSizes B S W) ≡ (shortBuffer stageLimits (sizesOf B S) || (ltb (length W) 512 || false))
   unfolding shortBuffer
   all-short = append-short stageLimits (512 ∷ []) (sizesOf B S) (length W ∷ []) refl
@@ -174,7 +169,7 @@ module _ (bytes : List ℕ) (B : JobBuffers) (S : StateBuffers) (W : List ℕ) w
   all-printed e = rw (e, limits-enough)
 
   begun :
-      (B′ : JobBuffers) (S′ : StateBuffers) (W′ : List ℕ) (r : Printing) (o : Loaded)
+      (B′ : JobSlices) (S′ : StateBuffers) (W′ : List ℕ) (r : Printing) (o : Loaded)
       → loadedWith B S W bytes ≡ o
       → BegunParts B S W B′ S′ W′ r o
       → shown r B′ S′ W′ ≡ sheetOf o
@@ -199,7 +194,7 @@ module _ (bytes : List ℕ) (B : JobBuffers) (S : StateBuffers) (W : List ℕ) w
       rw e
 
   pub refused-begin :
-      512 ≤ length W → (B′ : JobBuffers) (S′ : StateBuffers) (r : JobLoaded) (n : ℕ) → StageLoadDone bytes B S B′ S′ r → r ≡ NotLoaded n → Begun bytes B S W B′ S′ W (Refused n)
+      512 ≤ length W → (B′ : JobSlices) (S′ : StateBuffers) (r : JobLoaded) (n : ℕ) → StageLoadDone bytes B S B′ S′ r → r ≡ NotLoaded n → Begun bytes B S W B′ S′ W (Refused n)
   unfolding shown
   refused-begin h B′ S′ r n d told = go (load (sizesOf B S) bytes) refl (d .parts)
     where
@@ -211,13 +206,13 @@ module _ (bytes : List ℕ) (B : JobBuffers) (S : StateBuffers) (W : List ℕ) w
 
   -- ---- a job that loads, and its run
 
-  module _ (are-bytes : Bytes bytes) (j : Job) (loads : load (sizesOf B S) bytes ≡ loaded j) (h : JobHeader) (head : h ≡ headerOf j) (B₁ : JobBuffers) (S₁ : StateBuffers)
+  module _ (are-bytes : Bytes bytes) (j : Job) (loads : load (sizesOf B S) bytes ≡ loaded j) (h : JobHeader) (head : h ≡ headerOf j) (B₁ : JobSlices) (S₁ : StateBuffers)
       (job-is : B₁ ≡ laterJob j B S) (state-is : S₁ ≡ laterState j S) (S′ : StateBuffers) (W′ : List ℕ) (c : Listing) (d : RunStored h B₁ S₁ W S′ W′ c) where
     reach : Reached j (freshState j)
     reach = reached-fresh (sizesOf B S) bytes j are-bytes loads
 
-    job-stands : JobStands j B₁
-    job-stands = subst (λ (b : JobBuffers). JobStands j b) (sym job-is) (laid-job j B S)
+    job-stands : JobStands j (listsIn B₁)
+    job-stands = subst (λ (b : JobSlices). JobStands j (listsIn b)) (sym job-is) (laid-job j (stage-premises (sizesOf B S) bytes j are-bytes loads) B S)
 
     state-stands : StateStands j (freshState j) (behindState S) S₁ firstRecords
     state-stands =
@@ -281,7 +276,7 @@ module _ (bytes : List ℕ) (B : JobBuffers) (S : StateBuffers) (W : List ℕ) w
     reach-after = reached-run j (freshState j) reach (j .budget)
 
     module _ (room : 512 ≤ length W) where
-      laid : Laid j (ranOf j .state) (recordsIn W′) (lent (B₁ .regs) (S′ .ends) (S′ .rests))
+      laid : Laid j (ranOf j .state) (recordsIn W′) (lent (B₁ .job64) (S′ .ends) (S′ .rests))
       laid =
           record {
             maps-behind = job-stands .reads .regs .0;
@@ -298,12 +293,12 @@ module _ (bytes : List ℕ) (B : JobBuffers) (S : StateBuffers) (W : List ℕ) w
       loaded-begun =
           begun B₁ S′ W′ (At c) (loaded j) (same-load room ∙ loads) (ap At start-is, job-is, stands-so, stored-so room)
           (ap (λ (x : Listing). shown (At x) B₁ S′ W′) start-is
-          ∙ reached-sheet j (ranOf j .state) reach-after (recordsIn W′) (lent (B₁ .regs) (S′ .ends) (S′ .rests)) laid (ranOf j .ending) (ranOf j .dequeues))
+          ∙ reached-sheet j (ranOf j .state) reach-after (recordsIn W′) (lent (B₁ .job64) (S′ .ends) (S′ .rests)) laid (ranOf j .ending) (ranOf j .dequeues))
 
   pub loaded-begin :
       512 ≤ length W
       → Bytes bytes
-      → (B₁ : JobBuffers) (S₁ : StateBuffers) (r : JobLoaded) (h : JobHeader)
+      → (B₁ : JobSlices) (S₁ : StateBuffers) (r : JobLoaded) (h : JobHeader)
       → StageLoadDone bytes B S B₁ S₁ r
       → r ≡ Is h
       → (S′ : StateBuffers) (W′ : List ℕ) (c : Listing)

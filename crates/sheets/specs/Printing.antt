@@ -13,7 +13,7 @@ use Rattle.reg_matrix.specs.Refusals.{shortBuffer}
 use Rattle.reg_matrix.specs.Layout.{maxEntries, endWords, restWords}
 use Rattle.job.specs.Model.{Job}
 use Rattle.job.specs.Load.{Loaded, notLoaded, loaded, loadWith}
-use Rattle.job.specs.Layout.{JobBuffers, headerOf}
+use Rattle.job.specs.Layout.{JobSlices, headerOf}
 use Rattle.job.specs.declared.JobHeader.{JobHeader}
 use Rattle.allocator.specs.declared.Assignment.{Assignment}
 use Rattle.allocator.specs.declared.Ending.{Ending}
@@ -39,11 +39,11 @@ use Rattle.sheets.specs.declared.Printing.the-variants.{Refused, At}
 abbrev pub sheetLimits : List ℕ
 sheetLimits = stageLimits ++ (512 ∷ [])
 
-abbrev pub sheetSizes : JobBuffers → StateBuffers → List ℕ → List ℕ
+abbrev pub sheetSizes : JobSlices → StateBuffers → List ℕ → List ℕ
 sheetSizes B S words = sizesOf B S ++ (length words ∷ [])
 
 -- 01, "Order": what loading these bytes answers, with these buffers lent
-unfoldable pub loadedWith : JobBuffers → StateBuffers → List ℕ → List ℕ → Loaded
+unfoldable pub loadedWith : JobSlices → StateBuffers → List ℕ → List ℕ → Loaded
 loadedWith B S words bytes = loadWith sheetLimits (sheetSizes B S words) bytes
 
 -- ---- what stands there afterwards
@@ -73,17 +73,17 @@ startOf h ending dequeues = record { ending = ending; dequeues = dequeues; heade
 -- ---- the lines
 
 -- the lines from a position on, over what is lent
-abbrev pub linesOver : Listing → JobBuffers → StateBuffers → List ℕ → List (List ℕ)
-linesOver c B S words = linesFrom c (recordsIn words) (lent (B .regs) (S .ends) (S .rests))
+abbrev pub linesOver : Listing → JobSlices → StateBuffers → List ℕ → List (List ℕ)
+linesOver c B S words = linesFrom c (recordsIn words) (lent (B .job64) (S .ends) (S .rests))
 
 -- 01, "The printed sheet": what is printed for an answer: "A refusal prints `refused N` alone", or the lines one after another
-unfoldable pub shown : Printing → JobBuffers → StateBuffers → List ℕ → List ℕ
+unfoldable pub shown : Printing → JobSlices → StateBuffers → List ℕ → List ℕ
 shown (Refused n) B S words = refusedLine n
 shown (At c) B S words = concatMap (λ x. x) (linesOver c B S words)
 
 -- ---- the contracts
 
-abbrev pub BegunParts : JobBuffers → StateBuffers → List ℕ → JobBuffers → StateBuffers → List ℕ → Printing → Loaded → Type 0
+abbrev pub BegunParts : JobSlices → StateBuffers → List ℕ → JobSlices → StateBuffers → List ℕ → Printing → Loaded → Type 0
 BegunParts B S W B′ S′ W′ r (notLoaded n) = (r ≡ Refused n) × (B′ ≡ B) × (S′ ≡ S) × (W′ ≡ W)
 BegunParts B S W B′ S′ W′ r (loaded j) =
     (r ≡ At (startOf (headerOf j) (ranOf j .ending) (ranOf j .dequeues)))
@@ -93,7 +93,7 @@ BegunParts B S W B′ S′ W′ r (loaded j) =
 
 -- Of any bytes, with B, S and the words W lent: the answer and what stands there afterwards, where a refusal leaves all as it was; and the lines from
 -- the answered position are together the sheet, which is the printed one where no buffer is short.
-pub record Begun (bytes : List ℕ) (B : JobBuffers) (S : StateBuffers) (W : List ℕ) (B′ : JobBuffers) (S′ : StateBuffers) (W′ : List ℕ) (r : Printing) : Type 0 where
+pub record Begun (bytes : List ℕ) (B : JobSlices) (S : StateBuffers) (W : List ℕ) (B′ : JobSlices) (S′ : StateBuffers) (W′ : List ℕ) (r : Printing) : Type 0 where
   pub parts : BegunParts B S W B′ S′ W′ r (loadedWith B S W bytes)
   pub shows : shown r B′ S′ W′ ≡ sheetOf (loadedWith B S W bytes)
   pub prints : shortBuffer sheetLimits (sheetSizes B S W) ≡ false → shown r B′ S′ W′ ≡ printed bytes
@@ -103,7 +103,7 @@ abbrev pub endingOf : ℕ → Ending
 endingOf n = cond (eqb n 1) Done (cond (eqb n 2) Spent TooMany)
 
 -- a run of what was loaded, whose records were stored in the words
-pub record RunStored (h : JobHeader) (B : JobBuffers) (S : StateBuffers) (W : List ℕ) (S′ : StateBuffers) (W′ : List ℕ) (c : Listing) : Type 0 where
+pub record RunStored (h : JobHeader) (B : JobSlices) (S : StateBuffers) (W : List ℕ) (S′ : StateBuffers) (W′ : List ℕ) (c : Listing) : Type 0 where
   pub answer : ℕ
   pub ending : ℕ
   pub dequeues : ℕ

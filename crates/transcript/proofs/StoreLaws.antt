@@ -1,12 +1,12 @@
 -- Texts stored one after another are the text that they make, whether they have room or not. Assumes nothing.
 use Prim.Native.Nat.{ℕ, zero, suc, _+_, _≤_, _<_}
 use native.Mathlib.Omega.{arith}
-use native.Mathlib.Nat.{add-zero}
 use mathlib.Core.Path.{_≡_, refl, sym, ap, _∙_, subst}
 use mathlib.Core.Logic.{_⊎_, inl, inr}
 use mathlib.Core.List.{List, [], _∷_, _++_}
 use lib.ListN.{length, getD, set, take, length-append}
 use lib.Seq.{sets, length-sets, take-suc, take-length}
+use Rattle.lent.proofs.Laws.{sets-append}
 use Rattle.transcript.specs.Texts.{Stored}
 
 set-past : (l : List ℕ) (i v : ℕ) → length l ≤ i → set l i v ≡ l
@@ -17,10 +17,6 @@ set-past (x ∷ xs) (suc i) v h = ap (λ (m : List ℕ). x ∷ m) (set-past xs i
 sets-past : (l : List ℕ) (i : ℕ) (vs : List ℕ) → length l ≤ i → sets l i vs ≡ l
 sets-past l i [] h = refl
 sets-past l i (v ∷ vs) h = ap (λ (m : List ℕ). sets m (suc i) vs) (set-past l i v h) ∙ sets-past l (suc i) vs (omega (arith, h))
-
-sets-append : (l : List ℕ) (i : ℕ) (vs ws : List ℕ) → sets l i (vs ++ ws) ≡ sets (sets l i vs) (i + length vs) ws
-sets-append l i [] ws = rw add-zero
-sets-append l i (v ∷ vs) ws = sets-append (set l i v) (suc i) vs ws ∙ ap (λ (k : ℕ). sets (sets l i (v ∷ vs)) k ws) (omega arith)
 
 -- one byte
 pub byte-room : (s : List ℕ) (i b : ℕ) → i < length s → Stored s i (b ∷ []) (set s i b) (i + 1)

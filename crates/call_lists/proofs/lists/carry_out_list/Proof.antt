@@ -4,7 +4,7 @@ use Rattle.call_lists.proofs.lists.carry_out_list.Statement.{statement}
 use Rattle.call_lists.proofs.lists.carry_out_list.Tie as tie
 
 returns : tie.Need-returns
-returns c = laws.list-refused _ _ (c .before .before .before .before .before .before .before .before .before .before .before .before .before .before .before .before .before .before .before .before .before .before .args .list .now) _ _ (c .before .before .before .before .before .before .before .before .before .before .before .before .before .before .before .before .before .before .before .before .before .before .args .answers .now) (c .if1 .taken)
+returns c = laws.list-refused _ _ (c .before .before .before .before .before .before .before .before .before .before .before .before .args .list .now) _ _ (c .before .before .before .before .before .before .before .before .before .before .before .before .args .answers .now) (c .if1 .taken)
 
 carry-out-calls-requires : tie.Need-carry-out-calls-requires
 carry-out-calls-requires c κs = search needs
@@ -25,7 +25,7 @@ same-length-5 : tie.Need-same-length-5
 same-length-5 c = search needs
 
 returns-2 : tie.Need-returns-2
-returns-2 c = laws.list-carried _ _ (c .before .before .before .before .before .before .before .before .before .before .before .before .before .before .before .before .before .before .before .before .before .before .before .before .before .before .before .before .before .before .before .before .before .before .before .before .before .before .before .args .list .now) _ _ (c .before .before .before .before .before .before .before .before .before .before .before .before .before .before .before .before .before .before .before .before .before .before .before .before .before .before .before .before .before .before .before .before .before .before .before .before .before .before .before .args .answers .now) _ _ _ _ (c .before .before .before .before .before .before .before .before .before .before .before .before .before .before .before .before .before .if1 .left) (c .before .before .before .before .before .before .before .before .before .before .carry-out-calls .ensures)
+returns-2 c = laws.list-carried _ _ (c .before .before .before .before .before .before .before .before .before .before .before .before .before .before .before .before .before .before .before .before .before .before .before .before .before .before .before .before .before .args .list .now) _ _ (c .before .before .before .before .before .before .before .before .before .before .before .before .before .before .before .before .before .before .before .before .before .before .before .before .before .before .before .before .before .args .answers .now) _ _ _ _ (c .before .before .before .before .before .before .before .before .before .before .before .before .before .before .before .before .before .if1 .left) (c .before .before .before .before .before .before .before .before .before .before .carry-out-calls .ensures)
 
 pub carry-out-list-spec : {M : Type 1} → statement M
 carry-out-list-spec =

@@ -24,6 +24,18 @@ same-length-4 c = search needs
 returns : tie.Need-returns
 returns c = placing-refused _ _ _ _ _ _ _ _ (c .before .before .before .before .before .before .record-at .ensures) _ (c .before .place-answer .ensures) (c .if1 .taken)
 
+from-requires : tie.Need-from-requires
+from-requires c κs = search needs
+
+from16-requires : tie.Need-from16-requires
+from16-requires c κs = search needs
+
+from16-requires-2 : tie.Need-from16-requires-2
+from16-requires-2 c κs = search needs
+
+from32-requires : tie.Need-from32-requires
+from32-requires c κs = search needs
+
 take-requires : tie.Need-take-requires
 take-requires c κs = search needs
 
@@ -50,8 +62,8 @@ same-length-8 c = search needs
 
 returns-2 : tie.Need-returns-2
 returns-2 c =
-    placing-done _ _ _ _ _ _ _ _ (c .before .before .before .before .before .before .before .before .before .before .before .before .before .before .before .before .before .before .before .before .before .before .record-at .ensures) _ (c .before .before .before .before .before .before .before .before .before .before .before .before .before .before .before .before .before .place-answer .ensures) (c .before .before .before .before .before .before .before .before .before .before .before .before .before .before .before .before .if1 .left) _ _ _ _
-    (c .before .before .before .before .before .before .before .before .before .before .before .take .ensures) _ _ (c .before .before .flag-of .ensures) (c .before .weight-of .ensures) _ (c .with-record .ensures)
+    placing-done _ _ _ _ _ _ _ _ (c .before .before .before .before .before .before .before .before .before .before .before .before .before .before .before .before .before .before .before .before .before .before .before .before .before .before .record-at .ensures) _ (c .before .before .before .before .before .before .before .before .before .before .before .before .before .before .before .before .before .before .before .before .before .place-answer .ensures) (c .before .before .before .before .before .before .before .before .before .before .before .before .before .before .before .before .before .before .before .before .if1 .left) _ _ _ _
+    (rw (c .before .before .before .before .before .before .before .before .before .before .before .before .before .before .before .before .before .before .before .from .ensures, c .before .before .before .before .before .before .before .before .before .before .before .before .before .before .before .before .before .before .from16 .ensures, c .before .before .before .before .before .before .before .before .before .before .before .before .before .before .before .before .before .from162 .ensures, c .before .before .before .before .before .before .before .before .before .before .before .before .before .before .before .before .from32 .ensures) at (c .before .before .before .before .before .before .before .before .before .before .before .take .ensures)) _ _ (c .before .before .flag-of .ensures) (c .before .weight-of .ensures) _ (c .with-record .ensures)
 
 pub assign-spec : {M : Type 1} → statement M
 assign-spec =
@@ -64,6 +76,10 @@ assign-spec =
     same-length-3
     same-length-4
     returns
+    from-requires
+    from16-requires
+    from16-requires-2
+    from32-requires
     take-requires
     flag-of-requires
     weight-of-requires

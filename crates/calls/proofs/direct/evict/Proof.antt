@@ -21,6 +21,21 @@ reg-of-requires c κs = search needs
 wide-requires : tie.Need-wide-requires
 wide-requires c κs = search needs
 
+from-requires : tie.Need-from-requires
+from-requires c κs = search needs
+
+from32-requires : tie.Need-from32-requires
+from32-requires c κs = search needs
+
+from16-requires : tie.Need-from16-requires
+from16-requires c κs = search needs
+
+from16-requires-2 : tie.Need-from16-requires-2
+from16-requires-2 c κs = search needs
+
+from32-requires-2 : tie.Need-from32-requires-2
+from32-requires-2 c κs = search needs
+
 take-back-requires : tie.Need-take-back-requires
 take-back-requires c κs = search needs
 
@@ -41,8 +56,8 @@ same-length-3 c = search needs
 
 returns-2 : tie.Need-returns-2
 returns-2 c =
-    evicting-done _ _ _ _ _ _ (c .before .before .before .before .before .before .before .before .before .before .before .before .before .before .before .before .before .record-at .ensures) _ (c .before .before .before .before .before .before .before .before .before .before .before .before .before .before .before .before .short-buffers .ensures) _ (c .before .before .before .before .before .before .before .before .before .before .before .before .before .before .before .evict-refusal .ensures) (c .before .before .before .before .before .before .before .before .before .before .before .before .before .before .if1 .left) _ _
-    (c .before .before .before .before .before .before .before .before .before .before .before .before .before .reg-of .ensures) (c .before .before .before .before .before .before .before .before .before .before .before .before .wide .ensures) _ _ _ (c .before .before .before .before .before .before .before .before .take-back .ensures) _ (c .before .flag-of .ensures) _ (c .with-record .ensures)
+    evicting-done _ _ _ _ _ _ (c .before .before .before .before .before .before .before .before .before .before .before .before .before .before .before .before .before .before .before .before .before .before .record-at .ensures) _ (c .before .before .before .before .before .before .before .before .before .before .before .before .before .before .before .before .before .before .before .before .before .short-buffers .ensures) _ (c .before .before .before .before .before .before .before .before .before .before .before .before .before .before .before .before .before .before .before .before .evict-refusal .ensures) (c .before .before .before .before .before .before .before .before .before .before .before .before .before .before .before .before .before .before .before .if1 .left) _ _
+    (c .before .before .before .before .before .before .before .before .before .before .before .before .before .before .before .before .before .before .reg-of .ensures) (c .before .before .before .before .before .before .before .before .before .before .before .before .before .before .before .before .before .wide .ensures) _ _ _ (rw (c .before .before .before .before .before .before .before .before .before .before .before .before .before .before .before .before .from .ensures, c .before .before .before .before .before .before .before .before .before .before .before .before .before .before .before .from32 .ensures, c .before .before .before .before .before .before .before .before .before .before .before .before .before .before .from16 .ensures, c .before .before .before .before .before .before .before .before .before .before .before .before .before .from162 .ensures, c .before .before .before .before .before .before .before .before .before .before .before .before .from322 .ensures) at (c .before .before .before .before .before .before .before .before .take-back .ensures)) _ (c .before .flag-of .ensures) _ (c .with-record .ensures)
 
 pub evict-spec : {M : Type 1} → statement M
 evict-spec =
@@ -54,6 +69,11 @@ evict-spec =
     returns
     reg-of-requires
     wide-requires
+    from-requires
+    from32-requires
+    from16-requires
+    from16-requires-2
+    from32-requires-2
     take-back-requires
     flag-of-requires
     with-record-requires

@@ -1,17 +1,29 @@
 use borrow.Author.Needs.{needs}
-use Rattle.calls.specs.Testing.{clearAt}
 use mathlib.Core.Path.{_∙_}
+use Rattle.calls.specs.Testing.{clearAt}
 use Rattle.calls.proofs.refusals.is_clear_at.Statement.{statement}
 use Rattle.calls.proofs.refusals.is_clear_at.Tie as tie
 
 at-requires : tie.Need-at-requires
 at-requires c κs = search needs
 
+from16-requires : tie.Need-from16-requires
+from16-requires c κs = search needs
+
+from-requires : tie.Need-from-requires
+from-requires c κs = search needs
+
 of32-requires : tie.Need-of32-requires
 of32-requires c κs = search needs
 
+from32-requires : tie.Need-from32-requires
+from32-requires c κs = search needs
+
 of32-requires-2 : tie.Need-of32-requires-2
 of32-requires-2 c κs = search needs
+
+from16-requires-2 : tie.Need-from16-requires-2
+from16-requires-2 c κs = search needs
 
 of16-requires : tie.Need-of16-requires
 of16-requires c κs = search needs
@@ -21,9 +33,19 @@ is-clear-requires c κs = search needs
 
 returns : tie.Need-returns
 unfolding clearAt
-returns c = c .is-clear .ensures ∙ rw (c .before .before .before .before .at .ensures, c .before .before .before .of32 .ensures, c .before .before .of322 .ensures, c .before .of16 .ensures)
+returns c = c .is-clear .ensures ∙ rw (c .before .before .before .before .before .before .before .before .at .ensures, c .before .before .before .before .before .before .from .ensures, c .before .before .before .before .before .of32 .ensures, c .before .before .before .of322 .ensures, c .before .of16 .ensures, c .before .before .before .before .before .before .before .from16 .ensures, c .before .before .before .before .from32 .ensures, c .before .before .from162 .ensures)
 
 pub is-clear-at-spec : {M : Type 1} → statement M
 is-clear-at-spec =
     tie.close
-    (tie.spec at-requires of32-requires of32-requires-2 of16-requires is-clear-requires returns)
+    (tie.spec
+    at-requires
+    from16-requires
+    from-requires
+    of32-requires
+    from32-requires
+    of32-requires-2
+    from16-requires-2
+    of16-requires
+    is-clear-requires
+    returns)

@@ -30,39 +30,9 @@ or-short-requires-8 c κs = search needs
 or-short-requires-9 : tie.Need-or-short-requires-9
 or-short-requires-9 c κs = search needs
 
-or-short-requires-10 : tie.Need-or-short-requires-10
-or-short-requires-10 c κs = search needs
-
-or-short-requires-11 : tie.Need-or-short-requires-11
-or-short-requires-11 c κs = search needs
-
-or-short-requires-12 : tie.Need-or-short-requires-12
-or-short-requires-12 c κs = search needs
-
-or-short-requires-13 : tie.Need-or-short-requires-13
-or-short-requires-13 c κs = search needs
-
-or-short-requires-14 : tie.Need-or-short-requires-14
-or-short-requires-14 c κs = search needs
-
-or-short-requires-15 : tie.Need-or-short-requires-15
-or-short-requires-15 c κs = search needs
-
-or-short-requires-16 : tie.Need-or-short-requires-16
-or-short-requires-16 c κs = search needs
-
-or-short-requires-17 : tie.Need-or-short-requires-17
-or-short-requires-17 c κs = search needs
-
-or-short-requires-18 : tie.Need-or-short-requires-18
-or-short-requires-18 c κs = search needs
-
-or-short-requires-19 : tie.Need-or-short-requires-19
-or-short-requires-19 c κs = search needs
-
 returns : tie.Need-returns
 unfolding shortBuffer
-returns c = rw (c .or-short19 .ensures, c .before .or-short18 .ensures, c .before .before .or-short17 .ensures, c .before .before .before .or-short16 .ensures, c .before .before .before .before .or-short15 .ensures, c .before .before .before .before .before .or-short14 .ensures, c .before .before .before .before .before .before .or-short13 .ensures, c .before .before .before .before .before .before .before .or-short12 .ensures, c .before .before .before .before .before .before .before .before .or-short11 .ensures, c .before .before .before .before .before .before .before .before .before .or-short10 .ensures, c .before .before .before .before .before .before .before .before .before .before .or-short9 .ensures, c .before .before .before .before .before .before .before .before .before .before .before .or-short8 .ensures, c .before .before .before .before .before .before .before .before .before .before .before .before .or-short7 .ensures, c .before .before .before .before .before .before .before .before .before .before .before .before .before .or-short6 .ensures, c .before .before .before .before .before .before .before .before .before .before .before .before .before .before .or-short5 .ensures, c .before .before .before .before .before .before .before .before .before .before .before .before .before .before .before .or-short4 .ensures, c .before .before .before .before .before .before .before .before .before .before .before .before .before .before .before .before .or-short3 .ensures, c .before .before .before .before .before .before .before .before .before .before .before .before .before .before .before .before .before .or-short2 .ensures, c .before .before .before .before .before .before .before .before .before .before .before .before .before .before .before .before .before .before .or-short .ensures)
+returns c = rw (c .or-short9 .ensures, c .before .or-short8 .ensures, c .before .before .or-short7 .ensures, c .before .before .before .or-short6 .ensures, c .before .before .before .before .or-short5 .ensures, c .before .before .before .before .before .or-short4 .ensures, c .before .before .before .before .before .before .or-short3 .ensures, c .before .before .before .before .before .before .before .or-short2 .ensures, c .before .before .before .before .before .before .before .before .or-short .ensures)
 
 pub short-buffers-spec : {M : Type 1} → statement M
 short-buffers-spec =
@@ -77,14 +47,4 @@ short-buffers-spec =
     or-short-requires-7
     or-short-requires-8
     or-short-requires-9
-    or-short-requires-10
-    or-short-requires-11
-    or-short-requires-12
-    or-short-requires-13
-    or-short-requires-14
-    or-short-requires-15
-    or-short-requires-16
-    or-short-requires-17
-    or-short-requires-18
-    or-short-requires-19
     returns)

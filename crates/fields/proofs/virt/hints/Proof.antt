@@ -7,18 +7,17 @@ use mathlib.Core.List.{List, [], _∷_, _++_}
 use lib.ListN.{length}
 use Rattle.job.specs.declared.Hint.{Hint}
 use Rattle.job.specs.Load.{hint}
-use Rattle.reader.specs.Read.{HintsAt}
 use Rattle.reader.proofs.Reading.{Reading, begin, more, stops, ends}
 use Rattle.reader.proofs.Stores.{none-stored, more-stored, stored-length}
+use Rattle.fields.specs.Virt.{HintsAt}
 use Rattle.fields.proofs.virt.hints.Statement.{statement}
 use Rattle.fields.proofs.virt.hints.Tie as tie
 
 abbrev Inv-loop : tie.InvT-loop
-Inv-loop s start count regs h owners₀ weights₀ at₀ i₀ owners weights at i =
-    (before : List Hint) × Reading s (λ before. hint regs) count start i at before × HintsAt h owners₀ weights₀ owners weights before
+Inv-loop s start count regs h job8₀ weights₀ at₀ i₀ job8 weights at i = (before : List Hint) × Reading s (λ before. hint regs) count start i at before × HintsAt h job8₀ weights₀ job8 weights before
 
 abbrev μ-loop : tie.MeasureT-loop
-μ-loop s start count regs h owners₀ weights₀ at₀ i₀ owners weights at i = count - i
+μ-loop s start count regs h job8₀ weights₀ at₀ i₀ job8 weights at i = count - i
 
 loop-holds : tie.Need-loop-holds Inv-loop μ-loop
 loop-holds c = ([], begin, record { regs = none-stored; weights = none-stored })
@@ -44,11 +43,17 @@ enum-known-x c = search needs
 add-put8 : tie.Need-add-put8 Inv-loop μ-loop
 add-put8 c = search needs
 
+add-put8-2 : tie.Need-add-put8-2 Inv-loop μ-loop
+add-put8-2 c = search needs
+
 put8-requires : tie.Need-put8-requires Inv-loop μ-loop
 put8-requires c κs = search needs
 
 add-put-float : tie.Need-add-put-float Inv-loop μ-loop
 add-put-float c = search needs
+
+add-put-float-2 : tie.Need-add-put-float-2 Inv-loop μ-loop
+add-put-float-2 c = search needs
 
 put-float-requires : tie.Need-put-float-requires Inv-loop μ-loop
 put-float-requires c κs = search needs
@@ -62,11 +67,12 @@ loop-less c = search needs
 loop-again : tie.Need-loop-again Inv-loop μ-loop
 loop-again c =
     let v = c .before .before .before .before .before .before .before .before .before .before .before .before .before .loop .inv in
-    let n : c .before .before .before .before .before .before .before .before .before .before .before .before .before .before .before .before .before .args .h + length (v .0) ≡ c .before .before .before .before .before .before .before .before .before .before .before .before .before .before .before .before .before .args .h + c .before .before .before .before .before .before .before .before .before .before .before .before .before .loop .i = omega (arith, v .1 .read) in
+    let a : 1536 + c .before .before .before .before .before .before .before .before .before .before .before .before .before .before .before .before .before .args .h + length (v .0) ≡ 1536 + c .before .before .before .before .before .before .before .before .before .before .before .before .before .before .before .before .before .args .h + c .before .before .before .before .before .before .before .before .before .before .before .before .before .loop .i = omega (arith, v .1 .read) in
+    let b : 512 + c .before .before .before .before .before .before .before .before .before .before .before .before .before .before .before .before .before .args .h + length (v .0) ≡ 512 + c .before .before .before .before .before .before .before .before .before .before .before .before .before .before .before .before .before .args .h + c .before .before .before .before .before .before .before .before .before .before .before .before .before .loop .i = omega (arith, v .1 .read) in
     let x = c .before .before .before .before .before .before .before .before .before .x .given .0 .0 in (
       v .0 ++ (x ∷ []),
       more (v .1) (c .before .before .before .before .before .before .before .before .before .before .before .before .loop-test .taken) (rw (← c .before .before .before .before .before .before .before .before .before .before .before .hint .ensures, c .before .before .before .before .before .before .before .before .before .x .given .1)),
-      record { regs = more-stored (v .2 .regs) x n (c .before .before .before .before .before .before .put8 .ensures); weights = more-stored (v .2 .weights) x n (c .before .before .put-float .ensures) },
+      record { regs = more-stored (v .2 .regs) x a (c .before .before .before .before .before .before .put8 .ensures); weights = more-stored (v .2 .weights) x b (c .before .before .put-float .ensures) },
     )
 
 same-length-3 : tie.Need-same-length-3 Inv-loop μ-loop
@@ -92,8 +98,10 @@ hints-spec =
     returns
     enum-known-x
     add-put8
+    add-put8-2
     put8-requires
     add-put-float
+    add-put-float-2
     put-float-requires
     add-i
     loop-less

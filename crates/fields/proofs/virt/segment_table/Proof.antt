@@ -18,7 +18,7 @@ enum-known-k : tie.Need-enum-known-k
 enum-known-k c = search needs
 
 segments-requires : tie.Need-segments-requires
-segments-requires c κs = omega (arith, num-small (c .before .before .before .before .before .before .segment-count .ensures) (c .before .before .before .before .k .given .1), c .before .before .before .before .before .before .before .before .before .before .before .pre)
+segments-requires c κs = omega (arith, num-small (c .before .before .before .before .before .segment-count .ensures) (c .before .before .before .k .given .1), c .before .before .before .before .before .before .before .before .before .pre)
 
 enum-known-n-2 : tie.Need-enum-known-n-2
 enum-known-n-2 c = search needs
@@ -36,27 +36,21 @@ same-length c = search needs
 same-length-2 : tie.Need-same-length-2
 same-length-2 c = search needs
 
-same-length-3 : tie.Need-same-length-3
-same-length-3 c = search needs
-
 returns-2 : tie.Need-returns-2
 unfolding segments
-returns-2 c = rw (took-num (c .before .before .before .before .before .before .before .before .before .before .before .before .before .before .before .before .segment-count .ensures) (c .before .before .before .before .before .before .before .before .before .before .before .before .before .before .k .given .1)) (rw (c .before .n2 .given .1) at (c .before .before .before .before .before .before .before .before .before .segments .ensures))
+returns-2 c = rw (took-num (c .before .before .before .before .before .before .before .before .before .before .before .before .before .segment-count .ensures) (c .before .before .before .before .before .before .before .before .before .before .before .k .given .1)) (rw (c .before .n2 .given .1) at (c .before .before .before .before .before .before .before .segments .ensures))
+
+same-length-3 : tie.Need-same-length-3
+same-length-3 c = search needs
 
 same-length-4 : tie.Need-same-length-4
 same-length-4 c = search needs
 
-same-length-5 : tie.Need-same-length-5
-same-length-5 c = search needs
-
-same-length-6 : tie.Need-same-length-6
-same-length-6 c = search needs
-
 returns-3 : tie.Need-returns-3
 unfolding segments
 returns-3 c =
-    let w = rw (c .before .next .given .1) at (c .before .before .before .before .before .before .before .before .before .segments .ensures) in
-    (w .0, rw (took-num (c .before .before .before .before .before .before .before .before .before .before .before .before .before .before .before .before .segment-count .ensures) (c .before .before .before .before .before .before .before .before .before .before .before .before .before .before .k .given .1)) (w .1), each-length segment (c .before .before .before .before .before .before .before .before .before .before .before .before .before .before .k .given .0 .0) [] _ (w .1) ∙ omega arith, num-small (c .before .before .before .before .before .before .before .before .before .before .before .before .before .before .before .before .segment-count .ensures) (c .before .before .before .before .before .before .before .before .before .before .before .before .before .before .k .given .1), w .2)
+    let w = rw (c .before .next .given .1) at (c .before .before .before .before .before .before .before .segments .ensures) in
+    (w .0, rw (took-num (c .before .before .before .before .before .before .before .before .before .before .before .before .before .segment-count .ensures) (c .before .before .before .before .before .before .before .before .before .before .before .k .given .1)) (w .1), each-length segment (c .before .before .before .before .before .before .before .before .before .before .before .k .given .0 .0) [] _ (w .1) ∙ omega arith, num-small (c .before .before .before .before .before .before .before .before .before .before .before .before .before .segment-count .ensures) (c .before .before .before .before .before .before .before .before .before .before .before .k .given .1), w .2)
 
 pub segment-table-spec : {M : Type 1} → statement M
 segment-table-spec =
@@ -71,9 +65,7 @@ segment-table-spec =
     returns
     same-length
     same-length-2
-    same-length-3
     returns-2
+    same-length-3
     same-length-4
-    same-length-5
-    same-length-6
     returns-3)

@@ -1,6 +1,6 @@
 -- The invariant: the segments read so far are stored, and the rest of them from here are the rest of the whole.
-use Prim.Native.Nat.{_+_, _-_}
 use borrow.Author.Needs.{needs}
+use Prim.Native.Nat.{_+_, _-_}
 use native.Mathlib.Omega.{arith}
 use mathlib.Core.Path.{_≡_, refl}
 use mathlib.Core.List.{List, [], _∷_, _++_}
@@ -9,22 +9,22 @@ use Rattle.reg_matrix.specs.Lists.{foldl}
 use Rattle.reg_matrix.specs.declared.ValueSegment.{ValueSegment}
 use Rattle.reader.proofs.Tables.{pastOf-more}
 use Rattle.job.specs.Load.{segment, pastOf}
-use Rattle.reader.specs.Read.{SegmentsAt}
 use Rattle.reader.proofs.Reading.{Reading, begin, more, stops, ends}
 use Rattle.reader.proofs.Stores.{none-stored, more-stored, stored-length}
+use Rattle.fields.specs.Virt.{SegmentsAt}
+use Rattle.fields.proofs.Slices.{more-segments, points-length}
 use Rattle.fields.proofs.virt.segments.Statement.{statement}
 use Rattle.fields.proofs.virt.segments.Tie as tie
 
 abbrev Inv-loop : tie.InvT-loop
-Inv-loop s start count g froms₀ tos₀ values₀ at₀ past₀ i₀ froms tos values at past i =
-    (before : List ValueSegment) × Reading s segment count start i at before × (past ≡ pastOf before) × SegmentsAt g froms₀ tos₀ values₀ froms tos values before
+Inv-loop s start count g job32₀ job16₀ at₀ past₀ i₀ job32 job16 at past i = (before : List ValueSegment) × Reading s segment count start i at before × (past ≡ pastOf before) × SegmentsAt g job32₀ job16₀ job32 job16 before
 
 abbrev μ-loop : tie.MeasureT-loop
-μ-loop s start count g froms₀ tos₀ values₀ at₀ past₀ i₀ froms tos values at past i = count - i
+μ-loop s start count g job32₀ job16₀ at₀ past₀ i₀ job32 job16 at past i = count - i
 
 loop-holds : tie.Need-loop-holds Inv-loop μ-loop
 unfolding pastOf foldl
-loop-holds c = ([], begin, refl, record { froms = none-stored; tos = none-stored; values = none-stored })
+loop-holds c = ([], begin, refl, record { points = refl; values = none-stored })
 
 segment-requires : tie.Need-segment-requires Inv-loop μ-loop
 segment-requires c κs = search needs
@@ -33,13 +33,10 @@ enum-known-n : tie.Need-enum-known-n Inv-loop μ-loop
 enum-known-n c = search needs
 
 same-length : tie.Need-same-length Inv-loop μ-loop
-same-length c = stored-length (c .before .before .before .before .before .loop .inv .3 .froms)
+same-length c = points-length (c .before .before .before .before .before .loop .inv .3)
 
 same-length-2 : tie.Need-same-length-2 Inv-loop μ-loop
-same-length-2 c = stored-length (c .before .before .before .before .before .loop .inv .3 .tos)
-
-same-length-3 : tie.Need-same-length-3 Inv-loop μ-loop
-same-length-3 c = stored-length (c .before .before .before .before .before .loop .inv .3 .values)
+same-length-2 c = stored-length (c .before .before .before .before .before .loop .inv .3 .values)
 
 returns : tie.Need-returns Inv-loop μ-loop
 unfolding segment
@@ -57,11 +54,17 @@ put32-requires c κs = search needs
 add-put32-2 : tie.Need-add-put32-2 Inv-loop μ-loop
 add-put32-2 c = search needs
 
+add-put32-3 : tie.Need-add-put32-3 Inv-loop μ-loop
+add-put32-3 c = search needs
+
 put32-requires-2 : tie.Need-put32-requires-2 Inv-loop μ-loop
 put32-requires-2 c κs = search needs
 
 add-put16 : tie.Need-add-put16 Inv-loop μ-loop
 add-put16 c = search needs
+
+add-put16-2 : tie.Need-add-put16-2 Inv-loop μ-loop
+add-put16-2 c = search needs
 
 put16-requires : tie.Need-put16-requires Inv-loop μ-loop
 put16-requires c κs = search needs
@@ -76,26 +79,19 @@ loop-again : tie.Need-loop-again Inv-loop μ-loop
 unfolding segment
 loop-again c =
     let v = c .before .before .before .before .before .before .before .before .before .before .before .before .before .before .before .before .before .loop .inv in
-    let n : c .before .before .before .before .before .before .before .before .before .before .before .before .before .before .before .before .before .before .before .before .before .before .args .g + length (v .0) ≡ c .before .before .before .before .before .before .before .before .before .before .before .before .before .before .before .before .before .before .before .before .before .before .args .g + c .before .before .before .before .before .before .before .before .before .before .before .before .before .before .before .before .before .loop .i = omega (arith, v .1 .read) in
-    let g = c .before .before .before .before .before .before .before .before .before .before .before .before .before .seg .given .0 .0 in (
-      v .0 ++ (g ∷ []),
+    let n : 529 + c .before .before .before .before .before .before .before .before .before .before .before .before .before .before .before .before .before .before .before .before .before .args .g + length (v .0) ≡ 529 + c .before .before .before .before .before .before .before .before .before .before .before .before .before .before .before .before .before .before .before .before .before .args .g + c .before .before .before .before .before .before .before .before .before .before .before .before .before .before .before .before .before .loop .i = omega (arith, v .1 .read) in
+    let x = c .before .before .before .before .before .before .before .before .before .before .before .before .before .seg .given .0 .0 in (
+      v .0 ++ (x ∷ []),
       more (v .1) (c .before .before .before .before .before .before .before .before .before .before .before .before .before .before .before .before .loop-test .taken) (rw (← v .2, ← c .before .before .before .before .before .before .before .before .before .before .before .before .before .before .before .segment .ensures, c .before .before .before .before .before .before .before .before .before .before .before .before .before .seg .given .1)),
-      pastOf-more (v .0) g,
-      record {
-        froms = more-stored (v .3 .froms) g n (c .before .before .before .before .before .before .before .before .before .before .put32 .ensures);
-        tos = more-stored (v .3 .tos) g n (c .before .before .before .before .before .before .put322 .ensures);
-        values = more-stored (v .3 .values) g n (c .before .before .put16 .ensures);
-      },
+      pastOf-more (v .0) x,
+      more-segments (v .3) x (v .1 .read) (c .before .before .before .before .before .before .before .before .before .before .before .before .before .before .before .before .loop-test .taken) (c .before .before .before .before .before .before .before .before .before .before .before .before .before .before .before .before .before .before .before .before .before .pre) (c .before .before .before .before .before .before .before .before .before .before .put32 .ensures) (c .before .before .before .before .before .before .put322 .ensures) (more-stored (v .3 .values) x n (c .before .before .put16 .ensures)),
     )
 
+same-length-3 : tie.Need-same-length-3 Inv-loop μ-loop
+same-length-3 c = points-length (c .before .loop .inv .3)
+
 same-length-4 : tie.Need-same-length-4 Inv-loop μ-loop
-same-length-4 c = stored-length (c .before .loop .inv .3 .froms)
-
-same-length-5 : tie.Need-same-length-5 Inv-loop μ-loop
-same-length-5 c = stored-length (c .before .loop .inv .3 .tos)
-
-same-length-6 : tie.Need-same-length-6 Inv-loop μ-loop
-same-length-6 c = stored-length (c .before .loop .inv .3 .values)
+same-length-4 c = stored-length (c .before .loop .inv .3 .values)
 
 returns-2 : tie.Need-returns-2 Inv-loop μ-loop
 returns-2 c = (c .before .loop .inv .0, ends (c .before .loop .inv .1) (c .loop-test .left), c .before .loop .inv .3)
@@ -111,19 +107,19 @@ segments-spec =
     enum-known-n
     same-length
     same-length-2
-    same-length-3
     returns
     enum-known-seg
     add-put32
     put32-requires
     add-put32-2
+    add-put32-3
     put32-requires-2
     add-put16
+    add-put16-2
     put16-requires
     add-i
     loop-less
     loop-again
+    same-length-3
     same-length-4
-    same-length-5
-    same-length-6
     returns-2)

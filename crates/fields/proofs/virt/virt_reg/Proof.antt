@@ -60,14 +60,14 @@ same-length-5 c = search needs
 same-length-6 : tie.Need-same-length-6
 same-length-6 c = search needs
 
-same-length-7 : tie.Need-same-length-7
-same-length-7 c = search needs
-
 returns-3 : tie.Need-returns-3
 unfolding virtRegAt
 returns-3 c =
-    let w = rw (c .before .before .before .before .before .before .before .before .before .before .before .before .before .before .hn .given .1) at (c .before .before .before .before .before .before .before .before .before .before .before .before .before .before .before .before .before .before .before .before .hint-table .ensures) in
-    rw (← c .before .before .before .before .before .before .before .before .before .before .before .before .before .before .before .before .before .before .before .before .before .before .before .before .before .before .virt-fields .ensures, c .before .before .before .before .before .before .before .before .before .before .before .before .before .before .before .before .before .before .before .before .before .before .before .before .f .given .1, w .1, rw (c .before .k3 .given .1) at (c .before .before .before .before .before .before .before .before .before .segment-table .ensures))
+    let w = rw (c .before .before .before .before .before .before .before .before .before .before .before .hn .given .1) at (c .before .before .before .before .before .before .before .before .before .before .before .before .before .before .before .before .before .hint-table .ensures) in
+    rw (← c .before .before .before .before .before .before .before .before .before .before .before .before .before .before .before .before .before .before .before .before .before .before .before .virt-fields .ensures, c .before .before .before .before .before .before .before .before .before .before .before .before .before .before .before .before .before .before .before .before .before .f .given .1, w .1, rw (c .before .k3 .given .1) at (c .before .before .before .before .before .before .before .segment-table .ensures))
+
+same-length-7 : tie.Need-same-length-7
+same-length-7 c = search needs
 
 same-length-8 : tie.Need-same-length-8
 same-length-8 c = search needs
@@ -78,20 +78,14 @@ same-length-9 c = search needs
 same-length-10 : tie.Need-same-length-10
 same-length-10 c = search needs
 
-same-length-11 : tie.Need-same-length-11
-same-length-11 c = search needs
-
-same-length-12 : tie.Need-same-length-12
-same-length-12 c = search needs
-
 returns-4 : tie.Need-returns-4
 returns-4 c =
-    let a = c .before .before .before .before .before .before .before .before .before .before .before .before .before .before .before .before .before .before .before .before .before .before .before .before .before .before .before .before .before .before .before .before .before .args in
-    let p = c .before .before .before .before .before .before .before .before .before .before .before .before .before .before .before .before .before .before .before .before .before .before .before .before .before .before .before .before .before .before .before .before .before .pre in
-    let f = c .before .before .before .before .before .before .before .before .before .before .before .before .before .before .before .before .before .before .before .before .before .before .before .before .f .given .0 in
-    let k = c .before .before .before .before .before .before .before .before .before .before .before .before .before .before .hn .given .0 in
+    let a = c .before .before .before .before .before .before .before .before .before .before .before .before .before .before .before .before .before .before .before .before .before .before .before .before .before .before .before .before .before .args in
+    let p = c .before .before .before .before .before .before .before .before .before .before .before .before .before .before .before .before .before .before .before .before .before .before .before .before .before .before .before .before .before .pre in
+    let f = c .before .before .before .before .before .before .before .before .before .before .before .before .before .before .before .before .before .before .before .before .before .f .given .0 in
+    let k = c .before .before .before .before .before .before .before .before .before .before .before .hn .given .0 in
     let l = c .before .gn .given .0 in
-    virt-out (a .s .now) (a .regs) (a .classes) (a .n) (a .h) (a .g) (a .at) (f .1 .0) (k .1 .0) (l .1 .0) (k .0) (l .0) (f .0) (p .1) (p .2) (sym (c .before .before .before .before .before .before .before .before .before .before .before .before .before .before .before .before .before .before .before .before .before .before .before .before .before .before .virt-fields .ensures) ∙ ap (fieldsView (a .s .now)) (c .before .before .before .before .before .before .before .before .before .before .before .before .before .before .before .before .before .before .before .before .before .before .before .before .f .given .1)) (rw (c .before .before .before .before .before .before .before .before .before .before .before .before .before .before .hn .given .1) at (c .before .before .before .before .before .before .before .before .before .before .before .before .before .before .before .before .before .before .before .before .hint-table .ensures)) (rw (c .before .gn .given .1) at (c .before .before .before .before .before .before .before .before .before .segment-table .ensures))
+    virt-out (a .s .now) (a .regs) (a .classes) (a .n) (a .h) (a .g) (a .at) (f .1 .0) (k .1 .0) (l .1 .0) (k .0) (l .0) (f .0) (p .1) (p .2) (sym (c .before .before .before .before .before .before .before .before .before .before .before .before .before .before .before .before .before .before .before .before .before .before .before .virt-fields .ensures) ∙ ap (fieldsView (a .s .now)) (c .before .before .before .before .before .before .before .before .before .before .before .before .before .before .before .before .before .before .before .before .before .f .given .1)) (rw (c .before .before .before .before .before .before .before .before .before .before .before .hn .given .1) at (c .before .before .before .before .before .before .before .before .before .before .before .before .before .before .before .before .before .hint-table .ensures)) (rw (c .before .gn .given .1) at (c .before .before .before .before .before .before .before .segment-table .ensures))
 
 pub virt-reg-spec : {M : Type 1} → statement M
 virt-reg-spec =
@@ -114,11 +108,9 @@ virt-reg-spec =
     same-length-4
     same-length-5
     same-length-6
-    same-length-7
     returns-3
+    same-length-7
     same-length-8
     same-length-9
     same-length-10
-    same-length-11
-    same-length-12
     returns-4)

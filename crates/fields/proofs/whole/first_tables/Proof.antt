@@ -56,11 +56,11 @@ enum-known-n-3 c = search needs
 enum-known-en : tie.Need-enum-known-en
 enum-known-en c = search needs
 
-cast-t52 : tie.Need-cast-t52
-cast-t52 c = record { fits = took-small (c .before .before .before .before .before .before .before .before .before .before .before .before .before .before .before .before .before .before .before .before .before .before .before .before .before .before .before .before .before .before .before .before .before .before .before .before .before .byte .ensures) (c .before .before .before .before .before .before .before .before .before .before .before .before .before .before .before .before .before .before .before .before .before .before .before .before .before .before .before .before .before .before .before .before .before .before .before .m .given .1) }
+cast-t51 : tie.Need-cast-t51
+cast-t51 c = record { fits = took-small (c .before .before .before .before .before .before .before .before .before .before .before .before .before .before .before .before .before .before .before .before .before .before .before .before .before .before .before .before .before .before .before .before .before .before .before .before .before .byte .ensures) (c .before .before .before .before .before .before .before .before .before .before .before .before .before .before .before .before .before .before .before .before .before .before .before .before .before .before .before .before .before .before .before .before .before .before .before .m .given .1) }
 
-cast-t53 : tie.Need-cast-t53
-cast-t53 c =
+cast-t52 : tie.Need-cast-t52
+cast-t52 c =
     let w = rw (c .before .before .before .before .before .before .before .before .before .before .before .before .before .before .before .before .before .before .before .before .before .before .before .before .before .before .before .rn .given .1) at (c .before .before .before .before .before .before .before .before .before .before .before .before .before .before .before .before .before .before .before .before .before .before .before .before .before .before .before .before .before .before .before .reg-table .ensures) in
     record { fits = omega (arith, w .3) }
 
@@ -144,7 +144,7 @@ returns-6 c =
       x .0,
       y .0,
       first-is (c .before .before .before .before .before .before .before .before .before .before .before .before .before .before .before .before .before .before .before .before .before .before .before .before .before .before .before .before .before .before .before .before .before .before .before .before .before .before .before .before .before .before .before .before .before .before .args .s .now) (took (c .before .before .before .before .before .before .before .before .before .before .before .before .before .before .before .before .before .before .before .before .before .before .before .before .before .before .before .before .before .before .before .before .before .before .before .before .before .byte .ensures) (c .before .before .before .before .before .before .before .before .before .before .before .before .before .before .before .before .before .before .before .before .before .before .before .before .before .before .before .before .before .before .before .before .before .before .before .m .given .1)) (lt-leb _ _ (c .before .before .before .before .before .before .before .before .before .before .before .before .before .before .before .before .before .before .before .before .before .before .before .before .before .before .before .before .before .before .before .before .before .if1 .left)) (w .1) (w .2) (x .1) (y .1),
-      record { regs = w .2; classes = x .2; classRegs = x .3; fewClassRegs = x .4; fixed = y .2 },
+      record { regs = w .2; classes = x .2; fewClassRegs = omega (arith, x .3, x .4); fixed = y .2 },
       w .4,
       x .5,
       y .4,
@@ -169,8 +169,8 @@ first-tables-spec =
     fixed-table-requires
     enum-known-n-3
     enum-known-en
+    cast-t51
     cast-t52
-    cast-t53
     same-length
     returns-3
     same-length-2

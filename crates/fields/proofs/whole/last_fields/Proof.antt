@@ -27,8 +27,8 @@ returns : tie.Need-returns
 unfolding lastOf
 returns c = rw (← c .before .before .before .before .before .before .before .probe-range .ensures, c .before .before .before .before .before .p .given .1, short-field (c .before .before .word-if .ensures) (c .enum-told .given .1))
 
-cast-t21 : tie.Need-cast-t21
-cast-t21 c = record { fits = field-small (c .before .before .before .word-if .ensures) (c .before .b .given .1) }
+cast-t20 : tie.Need-cast-t20
+cast-t20 c = record { fits = field-small (c .before .before .before .word-if .ensures) (c .before .b .given .1) }
 
 returns-2 : tie.Need-returns-2
 unfolding lastOf
@@ -49,6 +49,6 @@ last-fields-spec =
     enum-known-b
     enum-told
     returns
-    cast-t21
+    cast-t20
     returns-2
     returns-3)

@@ -2,6 +2,7 @@ use borrow.Author.Needs.{needs}
 use Prim.Native.Nat.{ℕ}
 use native.Mathlib.Omega.{arith}
 use lib.ListN.{length-replicate}
+use Rattle.job.specs.Layout.{slices}
 use Rattle.loader.proofs.Testing.{fields-out, tail-out, none-out, one-out}
 use Rattle.loader.proofs.load.tested.Statement.{statement}
 use Rattle.loader.proofs.load.tested.Tie as tie
@@ -21,33 +22,6 @@ slice-aggregate-job-fields-4 c = search needs
 slice-aggregate-job-fields-5 : tie.Need-slice-aggregate-job-fields-5
 slice-aggregate-job-fields-5 c = search needs
 
-slice-aggregate-job-fields-6 : tie.Need-slice-aggregate-job-fields-6
-slice-aggregate-job-fields-6 c = search needs
-
-slice-aggregate-job-fields-7 : tie.Need-slice-aggregate-job-fields-7
-slice-aggregate-job-fields-7 c = search needs
-
-slice-aggregate-job-fields-8 : tie.Need-slice-aggregate-job-fields-8
-slice-aggregate-job-fields-8 c = search needs
-
-slice-aggregate-job-fields-9 : tie.Need-slice-aggregate-job-fields-9
-slice-aggregate-job-fields-9 c = search needs
-
-slice-aggregate-job-fields-10 : tie.Need-slice-aggregate-job-fields-10
-slice-aggregate-job-fields-10 c = search needs
-
-slice-aggregate-job-fields-11 : tie.Need-slice-aggregate-job-fields-11
-slice-aggregate-job-fields-11 c = search needs
-
-slice-aggregate-job-fields-12 : tie.Need-slice-aggregate-job-fields-12
-slice-aggregate-job-fields-12 c = search needs
-
-slice-aggregate-job-fields-13 : tie.Need-slice-aggregate-job-fields-13
-slice-aggregate-job-fields-13 c = search needs
-
-slice-aggregate-job-fields-14 : tie.Need-slice-aggregate-job-fields-14
-slice-aggregate-job-fields-14 c = search needs
-
 job-fields-requires : tie.Need-job-fields-requires
 job-fields-requires c κs = search needs
 
@@ -58,19 +32,19 @@ enum-known-h : tie.Need-enum-known-h
 enum-known-h c = search needs
 
 same-length : tie.Need-same-length
-same-length c = c .before .before .before .before .before .before .before .before .before .before .before .before .before .before .before .before .before .before .before .before .before .before .units .given
+same-length c = c .before .before .before .before .before .before .before .before .before .before .before .units .given
 
 same-length-2 : tie.Need-same-length-2
-same-length-2 c = c .before .before .before .before .before .before .before .before .before .before .before .before .before .before .before .before .before .before .before .before .starts .given
+same-length-2 c = c .before .before .before .before .before .before .before .before .before .starts .given
 
 same-length-3 : tie.Need-same-length-3
-same-length-3 c = c .before .before .before .before .before .before .before .before .before .before .before .before .before .before .before .before .before .before .stops .given
+same-length-3 c = c .before .before .before .before .before .before .before .stops .given
 
 same-length-4 : tie.Need-same-length-4
-same-length-4 c = c .before .before .before .before .before .before .before .before .before .before .before .before .before .before .before .before .uses .given
+same-length-4 c = c .before .before .before .before .before .uses .given
 
 returns : tie.Need-returns
-returns c = tail-out _ (rw (c .before .before .h .given .1) at (c .before .before .before .before .before .before .before .before .before .before .before .before .before .before .before .before .before .before .before .before .before .before .before .before .before .before .job-fields .ensures)) (c .if1 .taken)
+returns c = tail-out _ (rw (c .before .before .h .given .1) at (c .before .before .before .before .before .before .before .before .before .before .before .before .before .before .before .before .before .job-fields .ensures)) (c .if1 .taken)
 
 slice-aggregate-whole-refusal : tie.Need-slice-aggregate-whole-refusal
 slice-aggregate-whole-refusal c = search needs
@@ -81,68 +55,80 @@ slice-aggregate-whole-refusal-2 c = search needs
 slice-aggregate-whole-refusal-3 : tie.Need-slice-aggregate-whole-refusal-3
 slice-aggregate-whole-refusal-3 c = search needs
 
+slice-aggregate-from8 : tie.Need-slice-aggregate-from8
+slice-aggregate-from8 c = search needs
+
+from8-requires : tie.Need-from8-requires
+from8-requires c κs = search needs
+
+slice-aggregate-from16 : tie.Need-slice-aggregate-from16
+slice-aggregate-from16 c = search needs
+
+from16-requires : tie.Need-from16-requires
+from16-requires c κs = search needs
+
 slice-aggregate-whole-refusal-4 : tie.Need-slice-aggregate-whole-refusal-4
 slice-aggregate-whole-refusal-4 c = search needs
 
-slice-aggregate-whole-refusal-5 : tie.Need-slice-aggregate-whole-refusal-5
-slice-aggregate-whole-refusal-5 c = search needs
+slice-aggregate-from32 : tie.Need-slice-aggregate-from32
+slice-aggregate-from32 c = search needs
 
-slice-aggregate-whole-refusal-6 : tie.Need-slice-aggregate-whole-refusal-6
-slice-aggregate-whole-refusal-6 c = search needs
+from32-requires : tie.Need-from32-requires
+from32-requires c κs = search needs
 
-slice-aggregate-whole-refusal-7 : tie.Need-slice-aggregate-whole-refusal-7
-slice-aggregate-whole-refusal-7 c = search needs
+slice-aggregate-from16-2 : tie.Need-slice-aggregate-from16-2
+slice-aggregate-from16-2 c = search needs
 
-slice-aggregate-whole-refusal-8 : tie.Need-slice-aggregate-whole-refusal-8
-slice-aggregate-whole-refusal-8 c = search needs
+from16-requires-2 : tie.Need-from16-requires-2
+from16-requires-2 c κs = search needs
 
 whole-refusal-requires : tie.Need-whole-refusal-requires
 whole-refusal-requires c κs = search needs
 
 same-length-5 : tie.Need-same-length-5
-same-length-5 c = c .before .before .before .before .before .before .before .before .before .before .before .before .before .before .before .before .before .before .before .before .before .before .before .before .before .before .before .before .before .before .before .before .before .before .before .units .given
+same-length-5 c = c .before .before .before .before .before .before .before .before .before .before .before .before .before .before .before .before .before .before .before .before .before .before .before .before .before .before .before .before .units .given
 
 same-length-6 : tie.Need-same-length-6
-same-length-6 c = c .before .before .before .before .before .before .before .before .before .before .before .before .before .before .before .before .before .before .before .before .before .before .before .before .before .before .before .before .before .before .before .before .before .starts .given
+same-length-6 c = c .before .before .before .before .before .before .before .before .before .before .before .before .before .before .before .before .before .before .before .before .before .before .before .before .before .before .starts .given
 
 same-length-7 : tie.Need-same-length-7
-same-length-7 c = c .before .before .before .before .before .before .before .before .before .before .before .before .before .before .before .before .before .before .before .before .before .before .before .before .before .before .before .before .before .before .before .stops .given
+same-length-7 c = c .before .before .before .before .before .before .before .before .before .before .before .before .before .before .before .before .before .before .before .before .before .before .before .before .stops .given
 
 same-length-8 : tie.Need-same-length-8
-same-length-8 c = c .before .before .before .before .before .before .before .before .before .before .before .before .before .before .before .before .before .before .before .before .before .before .before .before .before .before .before .before .before .uses .given
+same-length-8 c = c .before .before .before .before .before .before .before .before .before .before .before .before .before .before .before .before .before .before .before .before .before .before .uses .given
 
 returns-2 : tie.Need-returns-2
-returns-2 c = none-out _ (λ i. c .before .before .before .before .before .before .before .before .before .before .before .before .before .before .before .before .before .before .before .before .before .before .before .before .before .before .before .before .before .before .before .before .before .before .before .before .before .before .before .before .before .before .before .before .before .before .before .before .before .before .before .before .before .before .before .before .before .before .before .before .before .before .shared-slice-known .given i .fits) (rw (c .before .before .before .before .before .before .before .before .before .before .before .before .before .before .before .h .given .1) at (c .before .before .before .before .before .before .before .before .before .before .before .before .before .before .before .before .before .before .before .before .before .before .before .before .before .before .before .before .before .before .before .before .before .before .before .before .before .before .before .job-fields .ensures)) (omega (arith, length-replicate {A = ℕ} 64 0)) (omega (arith, length-replicate {A = ℕ} 17 0)) (omega (arith, length-replicate {A = ℕ} 1024 0)) (c .before .before .before .before .before .before .before .before .before .before .before .before .before .before .before .before .before .before .before .before .before .before .before .before .before .before .before .before .before .before .before .before .before .before .before .before .before .before .before .before .before .before .before .before .before .before .before .before .before .before .before .before .before .before .before .before .before .before .before .before .before .before .before .pre) (omega (arith, length-replicate {A = ℕ} 512 0)) (omega (arith, length-replicate {A = ℕ} 512 0)) (omega (arith, length-replicate {A = ℕ} 512 0), omega (arith, length-replicate {A = ℕ} 512 0), omega (arith, length-replicate {A = ℕ} 512 0)) (c .before .before .before .before .before .before .before .before .before .before .before .before .before .if1 .left) (c .before .whole-refusal .ensures) (c .if2 .taken)
+returns-2 c = none-out _ (λ i. c .before .before .before .before .before .before .before .before .before .before .before .before .before .before .before .before .before .before .before .before .before .before .before .before .before .before .before .before .before .before .before .before .before .before .before .before .before .before .before .before .before .before .before .before .before .before .before .before .shared-slice-known .given i .fits) (slices _ _ _ _ _) (slices _ _ _ _ _) (rw (c .before .before .before .before .before .before .before .before .before .before .before .before .before .before .before .before .before .before .before .h .given .1) at (c .before .before .before .before .before .before .before .before .before .before .before .before .before .before .before .before .before .before .before .before .before .before .before .before .before .before .before .before .before .before .before .before .before .before .job-fields .ensures)) (record { job64 = omega (arith, length-replicate {A = ℕ} 64 0); job32 = omega (arith, length-replicate {A = ℕ} 1024 0); job16 = omega (arith, length-replicate {A = ℕ} 1041 0); job8 = omega (arith, length-replicate {A = ℕ} 1536 0) }) (c .before .before .before .before .before .before .before .before .before .before .before .before .before .before .before .before .before .before .before .before .before .before .before .before .before .before .before .before .before .before .before .before .before .before .before .before .before .before .before .before .before .before .before .before .before .before .before .before .before .pre) (c .before .before .before .before .before .before .before .before .before .before .before .before .before .before .before .before .before .if1 .left) (rw (c .before .before .before .before .before .before .before .before .before .before .before .before .from8 .ensures, c .before .before .before .before .before .before .before .before .before .before .from16 .ensures, c .before .before .before .before .before .before .before .from32 .ensures, c .before .before .before .before .before .from162 .ensures) at (c .before .whole-refusal .ensures)) (c .if2 .taken)
 
 same-length-9 : tie.Need-same-length-9
-same-length-9 c = c .before .before .before .before .before .before .before .before .before .before .before .before .before .before .before .before .before .before .before .before .before .units .given
+same-length-9 c = c .before .before .before .before .before .before .before .before .before .before .units .given
 
 same-length-10 : tie.Need-same-length-10
-same-length-10 c = c .before .before .before .before .before .before .before .before .before .before .before .before .before .before .before .before .before .before .before .starts .given
+same-length-10 c = c .before .before .before .before .before .before .before .before .starts .given
 
 same-length-11 : tie.Need-same-length-11
-same-length-11 c = c .before .before .before .before .before .before .before .before .before .before .before .before .before .before .before .before .before .stops .given
+same-length-11 c = c .before .before .before .before .before .before .stops .given
 
 same-length-12 : tie.Need-same-length-12
-same-length-12 c = c .before .before .before .before .before .before .before .before .before .before .before .before .before .before .before .uses .given
+same-length-12 c = c .before .before .before .before .uses .given
 
 returns-3 : tie.Need-returns-3
-returns-3 c = fields-out _ (rw (c .before .n .given .1) at (c .before .before .before .before .before .before .before .before .before .before .before .before .before .before .before .before .before .before .before .before .before .before .before .before .before .job-fields .ensures))
+returns-3 c = fields-out _ (rw (c .before .n .given .1) at (c .before .before .before .before .before .before .before .before .before .before .before .before .before .before .before .before .job-fields .ensures))
 
 same-length-13 : tie.Need-same-length-13
-same-length-13 c = c .before .before .before .before .before .before .before .before .before .before .before .before .before .before .before .before .before .before .before .before .before .before .before .before .before .before .before .before .before .before .before .before .before .before .before .units .given
+same-length-13 c = c .before .before .before .before .before .before .before .before .before .before .before .before .before .before .before .before .before .before .before .before .before .before .before .before .before .before .before .before .units .given
 
 same-length-14 : tie.Need-same-length-14
-same-length-14 c = c .before .before .before .before .before .before .before .before .before .before .before .before .before .before .before .before .before .before .before .before .before .before .before .before .before .before .before .before .before .before .before .before .before .starts .given
+same-length-14 c = c .before .before .before .before .before .before .before .before .before .before .before .before .before .before .before .before .before .before .before .before .before .before .before .before .before .before .starts .given
 
 same-length-15 : tie.Need-same-length-15
-same-length-15 c = c .before .before .before .before .before .before .before .before .before .before .before .before .before .before .before .before .before .before .before .before .before .before .before .before .before .before .before .before .before .before .before .stops .given
+same-length-15 c = c .before .before .before .before .before .before .before .before .before .before .before .before .before .before .before .before .before .before .before .before .before .before .before .before .stops .given
 
 same-length-16 : tie.Need-same-length-16
-same-length-16 c = c .before .before .before .before .before .before .before .before .before .before .before .before .before .before .before .before .before .before .before .before .before .before .before .before .before .before .before .before .before .uses .given
+same-length-16 c = c .before .before .before .before .before .before .before .before .before .before .before .before .before .before .before .before .before .before .before .before .before .before .uses .given
 
 returns-4 : tie.Need-returns-4
-returns-4 c = one-out _ (λ i. c .before .before .before .before .before .before .before .before .before .before .before .before .before .before .before .before .before .before .before .before .before .before .before .before .before .before .before .before .before .before .before .before .before .before .before .before .before .before .before .before .before .before .before .before .before .before .before .before .before .before .before .before .before .before .before .before .before .before .before .before .before .before .shared-slice-known .given i .fits) (rw (c .before .before .before .before .before .before .before .before .before .before .before .before .before .before .before .h .given .1) at (c .before .before .before .before .before .before .before .before .before .before .before .before .before .before .before .before .before .before .before .before .before .before .before .before .before .before .before .before .before .before .before .before .before .before .before .before .before .before .before .job-fields .ensures)) (omega (arith, length-replicate {A = ℕ} 64 0)) (omega (arith, length-replicate {A = ℕ} 17 0)) (omega (arith, length-replicate {A = ℕ} 1024 0)) (c .before .before .before .before .before .before .before .before .before .before .before .before .before .before .before .before .before .before .before .before .before .before .before .before .before .before .before .before .before .before .before .before .before .before .before .before .before .before .before .before .before .before .before .before .before .before .before .before .before .before .before .before .before .before .before .before .before .before .before .before .before .before .before .pre) (omega (arith, length-replicate {A = ℕ} 512 0)) (omega (arith, length-replicate {A = ℕ} 512 0)) (omega (arith, length-replicate {A = ℕ} 512 0), omega (arith, length-replicate {A = ℕ} 512 0), omega (arith, length-replicate {A = ℕ} 512 0)) (c .before .before .before .before .before .before .before .before .before .before .before .before .before .if1 .left) (c .before .whole-refusal .ensures) (c .if2 .left)
+returns-4 c = one-out _ (λ i. c .before .before .before .before .before .before .before .before .before .before .before .before .before .before .before .before .before .before .before .before .before .before .before .before .before .before .before .before .before .before .before .before .before .before .before .before .before .before .before .before .before .before .before .before .before .before .before .before .shared-slice-known .given i .fits) (slices _ _ _ _ _) (slices _ _ _ _ _) (rw (c .before .before .before .before .before .before .before .before .before .before .before .before .before .before .before .before .before .before .before .h .given .1) at (c .before .before .before .before .before .before .before .before .before .before .before .before .before .before .before .before .before .before .before .before .before .before .before .before .before .before .before .before .before .before .before .before .before .before .job-fields .ensures)) (record { job64 = omega (arith, length-replicate {A = ℕ} 64 0); job32 = omega (arith, length-replicate {A = ℕ} 1024 0); job16 = omega (arith, length-replicate {A = ℕ} 1041 0); job8 = omega (arith, length-replicate {A = ℕ} 1536 0) }) (c .before .before .before .before .before .before .before .before .before .before .before .before .before .before .before .before .before .before .before .before .before .before .before .before .before .before .before .before .before .before .before .before .before .before .before .before .before .before .before .before .before .before .before .before .before .before .before .before .before .pre) (c .before .before .before .before .before .before .before .before .before .before .before .before .before .before .before .before .before .if1 .left) (rw (c .before .before .before .before .before .before .before .before .before .before .before .before .from8 .ensures, c .before .before .before .before .before .before .before .before .before .before .from16 .ensures, c .before .before .before .before .before .before .before .from32 .ensures, c .before .before .before .before .before .from162 .ensures) at (c .before .whole-refusal .ensures)) (c .if2 .left)
 
 pub tested-spec : {M : Type 1} → statement M
 tested-spec =
@@ -153,15 +139,6 @@ tested-spec =
     slice-aggregate-job-fields-3
     slice-aggregate-job-fields-4
     slice-aggregate-job-fields-5
-    slice-aggregate-job-fields-6
-    slice-aggregate-job-fields-7
-    slice-aggregate-job-fields-8
-    slice-aggregate-job-fields-9
-    slice-aggregate-job-fields-10
-    slice-aggregate-job-fields-11
-    slice-aggregate-job-fields-12
-    slice-aggregate-job-fields-13
-    slice-aggregate-job-fields-14
     job-fields-requires
     enum-known-n
     enum-known-h
@@ -173,11 +150,15 @@ tested-spec =
     slice-aggregate-whole-refusal
     slice-aggregate-whole-refusal-2
     slice-aggregate-whole-refusal-3
+    slice-aggregate-from8
+    from8-requires
+    slice-aggregate-from16
+    from16-requires
     slice-aggregate-whole-refusal-4
-    slice-aggregate-whole-refusal-5
-    slice-aggregate-whole-refusal-6
-    slice-aggregate-whole-refusal-7
-    slice-aggregate-whole-refusal-8
+    slice-aggregate-from32
+    from32-requires
+    slice-aggregate-from16-2
+    from16-requires-2
     whole-refusal-requires
     same-length-5
     same-length-6

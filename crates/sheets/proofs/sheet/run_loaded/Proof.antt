@@ -40,4 +40,18 @@ returns : tie.Need-returns
 returns c = run-stored _ _ _ _ _ _ _ _ _ _ _ _ _ (c .before .before .before .before .before .before .before .before .before .before .before .before .before .before .before .before .before .before .before .before .before .before .before .first-records .ensures) (c .before .before .before .before .before .before .before .before .before .before .before .before .before .before .run .ensures) (c .before .before .before .before .store .ensures .0) (c .before .before .before .before .store .ensures .1) (c .before .ending-of .ensures) (c .start .ensures)
 
 pub run-loaded-spec : {M : Type 1} → statement M
-run-loaded-spec = tie.close (tie.spec first-records-requires cast-run run-requires store-requires ending-of-requires start-requires same-length same-length-2 same-length-3 same-length-4 same-length-5 returns)
+run-loaded-spec =
+    tie.close
+    (tie.spec
+    first-records-requires
+    cast-run
+    run-requires
+    store-requires
+    ending-of-requires
+    start-requires
+    same-length
+    same-length-2
+    same-length-3
+    same-length-4
+    same-length-5
+    returns)
