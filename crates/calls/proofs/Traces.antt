@@ -18,7 +18,7 @@ use Rattle.reg_matrix.specs.Lines.{tableLines}
 use Rattle.reg_matrix.specs.declared.Entry.{Entry}
 use Rattle.reg_matrix.proofs.Members.{_∈_}
 use Rattle.matrix.proofs.Decode.{Small, entry-back}
-use Rattle.matrix.proofs.Standing.{word-small}
+use Rattle.placing.proofs.Standing.{word-small}
 use Rattle.job.specs.Model.{Job}
 use Rattle.job.specs.Load.{loaded}
 use Rattle.job.specs.Layout.{JobSlices, listsIn, headerOf}

@@ -16,9 +16,9 @@ use Rattle.reg_matrix.specs.Layout.{endWords, restWords, useWords}
 use Rattle.reg_matrix.proofs.Tests.{both, not-some}
 use Rattle.lent.proofs.Laws.{any-default}
 use Rattle.reg_matrix.proofs.Places.{padded-length, padded-read, from-zero, count-length, count-append, filter-append}
-use Rattle.matrix.specs.Moves.{words}
-use Rattle.matrix.specs.Placing.{Assigned, Evicted}
-use Rattle.matrix.specs.declared.Moved.{Moved}
+use Rattle.placing.specs.Moves.{words}
+use Rattle.placing.specs.Placing.{Assigned, Evicted}
+use Rattle.placing.specs.declared.Moved.{Moved}
 use Rattle.job.specs.Model.{Job, VirtReg, noVirtReg, virtReg, unitMap, segmentsOf, zeroWeight}
 use Rattle.job.specs.Layout.{jobBuffers, startsFrom}
 use Rattle.job.proofs.Lists.{starts-length}

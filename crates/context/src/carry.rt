@@ -16,8 +16,8 @@ use lent::at;
 use lent::at16;
 use lent::at32;
 use lent::put8;
-use matrix::assign::assign;
-use matrix::assign::evict;
+use placing::assign::assign;
+use placing::assign::evict;
 use queue::enqueue;
 use queue::remove;
 

@@ -21,11 +21,11 @@ use Rattle.reg_matrix.specs.declared.ValueSegment.{ValueSegment}
 use Rattle.reg_matrix.specs.declared.Entry.{Entry}
 use Rattle.reg_matrix.proofs.Members.{_∈_}
 use Rattle.reg_matrix.proofs.Places.{padded-length, from-zero}
-use Rattle.matrix.specs.Moves.{words}
-use Rattle.matrix.specs.Placing.{freeAt, range, spareAnswer}
-use Rattle.matrix.proofs.Asked.{filled-at}
+use Rattle.placing.specs.Moves.{words}
+use Rattle.placing.specs.Placing.{freeAt, range, spareAnswer}
+use Rattle.placing.proofs.Asked.{filled-at}
 use Rattle.matrix.proofs.Decode.{entry-back}
-use Rattle.matrix.proofs.Evicted.{word-at}
+use Rattle.placing.proofs.Evicted.{word-at}
 use Rattle.job.specs.Model.{Job}
 use Rattle.job.specs.Layout.{jobBuffers, probeOf, headerOf}
 use Rattle.job.proofs.Premises.{GoodSegment, GoodProbe}

@@ -22,8 +22,8 @@ use Rattle.job.specs.Layout.{startsFrom, jobBuffers, JobSlices, jobSlices, load
 use Rattle.job.proofs.Lists.{starts-length}
 use Rattle.job.proofs.Premises.{Premises}
 use Rattle.lent.specs.Parts.{filled}
-use Rattle.matrix.specs.Reserving.{lain}
-use Rattle.matrix.proofs.Loaded.{In}
+use Rattle.placing.specs.Reserving.{lain}
+use Rattle.placing.proofs.Loaded.{In}
 use Rattle.fields.specs.declared.whole.JobRead.{JobRead}
 use Rattle.fields.specs.declared.whole.JobRead.the-variants.{Is, Refused}
 use Rattle.reader.specs.Read.{allMembers, hintsOfAll, segmentsOfAll}

@@ -1,5 +1,2 @@
-pub mod Moves
-pub mod Placing
 pub mod Search
 pub mod Walk
-pub mod Reserving

@@ -1,15 +1,11 @@
-// The reservation matrix in code (`reg_matrix.rs`): the check, placing and evicting, the spare question, fixed reservations. Its definitions are
-// those of the crate reg_matrix, whose tables and laws each must-fail edit of a definition checks without this code.
+// The reservation matrix in code (`reg_matrix.rs`): its words, the search in them and the check; the crate placing has what changes it. Its
+// definitions are those of the crate reg_matrix, whose tables and laws each must-fail edit of a definition checks without this code.
 
 use reg_matrix::Interference;
 
-pub mod assign;
 pub mod check;
 mod ranges;
-pub mod reserve;
-mod search;
-mod table;
-pub mod unit_free;
+pub mod search;
 pub mod words;
 
 // A position of a check: the units of the register's map that are still to be walked, the current one the lowest; the segment and the
@@ -23,7 +19,7 @@ pub struct Cursor {
 }
 
 // One step of a check: it meets something and goes on, goes on, or ends.
-enum Move {
+pub enum Move {
     Meets(Interference, Cursor),
     Goes(Cursor),
     Ends,
@@ -39,17 +35,4 @@ pub enum Step {
 pub enum Start {
     Checking(Cursor),
     Refused(u8),
-}
-
-// What placing or evicting answers: it is done, or the number of a refusal, which has changed nothing.
-pub enum Moved {
-    Done,
-    Refused(u8),
-}
-
-// Whether a unit is spare over a range: free, taken, or the number of a refusal.
-pub enum UnitFree {
-    Free,
-    Taken,
-    NotAsked(u8),
 }

@@ -6,7 +6,7 @@ use crate::output::print;
 use matrix::Cursor;
 use matrix::Start;
 use matrix::Step;
-use matrix::unit_free::is_unit_free;
+use placing::unit_free::is_unit_free;
 use reg_matrix::ValueSegment;
 use thin::lists::check_list;
 use thin::lists::next_in_list;

@@ -20,11 +20,11 @@ use Rattle.reg_matrix.proofs.Cells.{Cell}
 use Rattle.reg_matrix.proofs.Laws.{table-size}
 use Rattle.matrix.specs.Walk.{Lent, segmentsIn, entered, remaining}
 use Rattle.matrix.proofs.Starts.{passed-ranges, segments-back}
-use Rattle.matrix.proofs.Reading.{Holds, Walkable}
-use Rattle.matrix.proofs.Lying.{AllSmall, allUses}
-use Rattle.matrix.proofs.Moving.{SmallCells, SmallPoints}
-use Rattle.matrix.proofs.Reserved.{uses-few}
-use Rattle.matrix.proofs.CheckLaw.{matrix-walkable, reached-walk}
+use Rattle.placing.proofs.Reading.{Holds, Walkable}
+use Rattle.placing.proofs.Lying.{AllSmall, allUses}
+use Rattle.placing.proofs.Moving.{SmallCells, SmallPoints}
+use Rattle.placing.proofs.Reserved.{uses-few}
+use Rattle.placing.proofs.CheckLaw.{matrix-walkable, reached-walk}
 use Rattle.job.specs.Model.{Job, segmentsOf, unitMap}
 use Rattle.job.proofs.Premises.{IsNumber}
 use Rattle.allocator.specs.State.{State, checkOf}

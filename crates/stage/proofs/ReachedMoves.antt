@@ -14,15 +14,15 @@ use Rattle.reg_matrix.specs.Layout.{maxEntries, endWords, restWords, useWords}
 use Rattle.reg_matrix.proofs.Cells.{Cell}
 use Rattle.reg_matrix.proofs.Whole.{cells}
 use Rattle.reg_matrix.proofs.Laws.{Matrix}
-use Rattle.matrix.specs.Moves.{Words, words}
-use Rattle.matrix.specs.Placing.{Assigned, Evicted, freeAt, range}
-use Rattle.matrix.specs.declared.Moved.{Moved}
+use Rattle.placing.specs.Moves.{Words, words}
+use Rattle.placing.specs.Placing.{Assigned, Evicted, freeAt, range}
+use Rattle.placing.specs.declared.Moved.{Moved}
 use Rattle.matrix.proofs.Decode.{fits-word}
-use Rattle.matrix.proofs.Standing.{Stands}
-use Rattle.matrix.proofs.Lying.{UsesLie}
-use Rattle.matrix.proofs.Moving.{SmallCells}
-use Rattle.matrix.proofs.Asked.{free-stands}
-use Rattle.matrix.proofs.Answered.{Carried, assigned, evicted}
+use Rattle.placing.proofs.Standing.{Stands}
+use Rattle.placing.proofs.Lying.{UsesLie}
+use Rattle.placing.proofs.Moving.{SmallCells}
+use Rattle.placing.proofs.Asked.{free-stands}
+use Rattle.placing.proofs.Answered.{Carried, assigned, evicted}
 use Rattle.job.specs.Model.{Job, segmentsOf, unitMap}
 use Rattle.job.proofs.Premises.{IsNumber}
 use Rattle.allocator.specs.State.{State, heldBy, checkOf, give, lose, evictNumber}

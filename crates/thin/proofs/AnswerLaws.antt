@@ -5,12 +5,12 @@ use mathlib.Core.List.{List, [], _∷_}
 use mathlib.Core.Bool.{Bool, true, false}
 use Rattle.reg_matrix.specs.Questions.{checkRefusal}
 use Rattle.matrix.specs.Walk.{Answered, lent, startOf, entered}
-use Rattle.matrix.specs.Moves.{Words}
-use Rattle.matrix.specs.Placing.{Assigned, Evicted}
+use Rattle.placing.specs.Moves.{Words}
+use Rattle.placing.specs.Placing.{Assigned, Evicted}
 use Rattle.matrix.specs.declared.Cursor.{Cursor}
 use Rattle.matrix.specs.declared.Step.{Step}
-use Rattle.matrix.specs.declared.Moved.{Moved}
-use Rattle.matrix.specs.declared.Moved.the-variants.{Refused}
+use Rattle.placing.specs.declared.Moved.{Moved}
+use Rattle.placing.specs.declared.Moved.the-variants.{Refused}
 use lib.Dec.{ltb}
 use lib.ListN.{length, take, getD, length-map}
 use lib.Seq.{take-all}

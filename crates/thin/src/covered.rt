@@ -1,6 +1,6 @@
 // The calls of crate matrix on segments that are taken apart. No function here has a slice of structs, so the borrow checker covers each.
 ghost use mathlib.Core.Path.{_≡_};
-ghost use Rattle.matrix.specs.Moves.{words};
+ghost use Rattle.placing.specs.Moves.{words};
 ghost use Rattle.matrix.specs.Walk.{Answered, lent, entered};
 ghost use Rattle.thin.specs.Answers.{checkAnswer, AssignAnswer, EvictAnswer};
 ghost use Rattle.thin.specs.Apart.{fromsIn, tosIn, valuesIn};
@@ -8,10 +8,10 @@ use crate::Fields;
 use lent::part16;
 use lent::part32;
 use matrix::Cursor;
-use matrix::Moved;
+use placing::Moved;
 use matrix::Start;
 use matrix::Step;
-use matrix::assign;
+use placing::assign;
 use matrix::check;
 
 // The check of segments that are taken apart.

@@ -1,0 +1,14 @@
+pub mod Shifts
+pub mod PlacingWalks
+pub mod Reading
+pub mod UnitWalk
+pub mod CheckLaw
+pub mod Standing
+pub mod Lying
+pub mod Placed
+pub mod Evicted
+pub mod Moving
+pub mod Asked
+pub mod Reserved
+pub mod Answered
+pub mod Loaded
