@@ -17,7 +17,6 @@ use Rattle.matrix.specs.declared.Cursor.{Cursor}
 use Rattle.matrix.specs.declared.Step.{Step}
 use Rattle.matrix.specs.declared.Step.the-variants.{Report, End}
 use Rattle.allocator.specs.declared.CandidateReg.{CandidateReg}
-use Rattle.allocator.specs.declared.Assignment.{Assignment}
 use Rattle.stage.specs.EvictWalk.{triedBelow}
 use Rattle.stage.specs.declared.evict.Tried.{Tried}
 use Rattle.stage.specs.declared.evict.Limit.{Limit}
@@ -71,64 +70,64 @@ module _ (W : Lent) (maps : List ℕ) (hs : List CandidateReg) (class : List ℕ
       available-end (rw (a, b))
 
 -- what was tried on the units that were read for a candidate's register
-pub tried-is : (l l′ : Limit) (W : Lent) (maps : List ℕ) (rs : List Assignment) (ss : List Float) (c : CandidateReg) (n units : ℕ) (t : Tried)
-    → l ≡ l′ → n ≡ c .reg → units ≡ getD maps n 0 → t ≡ triedBelow l rs ss (reportsOn W units) → t ≡ triedOn l′ W maps rs ss c
+pub tried-is : (l l′ : Limit) (W : Lent) (maps : List ℕ) (ws : List Float) (ss : List Float) (c : CandidateReg) (n units : ℕ) (t : Tried)
+    → l ≡ l′ → n ≡ c .reg → units ≡ getD maps n 0 → t ≡ triedBelow l ws ss (reportsOn W units) → t ≡ triedOn l′ W maps ws ss c
 unfolding triedOn
-tried-is l l′ W maps rs ss c n units t e p q r = r ∙ rw (e, q, p)
+tried-is l l′ W maps ws ss c n units t e p q r = r ∙ rw (e, q, p)
 
 -- ---- one candidate of the search for a register to evict from
 
-module _ (W : Lent) (maps : List ℕ) (rs : List Assignment) (ss : List Float) (flag : Bool) (own : Float) (hs : List CandidateReg) (class : List ℕ) (i : ℕ) (b : Best) where
-  pub evict-end : offerAt hs class i ≡ NoMore → b ≡ evictIn W maps rs ss flag own b (offersFrom hs class i)
+module _ (W : Lent) (maps : List ℕ) (ws : List Float) (ss : List Float) (flag : Bool) (own : Float) (hs : List CandidateReg) (class : List ℕ) (i : ℕ) (b : Best) where
+  pub evict-end : offerAt hs class i ≡ NoMore → b ≡ evictIn W maps ws ss flag own b (offersFrom hs class i)
   unfolding evictIn foldl
   evict-end q = rw (offers-step hs class i, q)
 
-  pub evict-skip : offerAt hs class i ≡ Skip → evictIn W maps rs ss flag own b (offersFrom hs class (i + 1)) ≡ evictIn W maps rs ss flag own b (offersFrom hs class i)
+  pub evict-skip : offerAt hs class i ≡ Skip → evictIn W maps ws ss flag own b (offersFrom hs class (i + 1)) ≡ evictIn W maps ws ss flag own b (offersFrom hs class i)
   evict-skip q = rw (offers-step hs class i, q)
 
-  pub evict-past : length hs + length class ≤ i → b ≡ evictIn W maps rs ss flag own b (offersFrom hs class i)
+  pub evict-past : length hs + length class ≤ i → b ≡ evictIn W maps ws ss flag own b (offersFrom hs class i)
   unfolding offerAt
   evict-past h =
       let p : ltb i (length hs) ≡ false = le-ltb i (length hs) (omega arith) in
       let q : ltb (i - length hs) (length class) ≡ false = le-ltb (i - length hs) (length class) (omega arith) in
       evict-end (rw (p, q))
 
-  module _ (c : CandidateReg) (q : offerAt hs class i ≡ Offered c) (t : Tried) (e : t ≡ triedOn (byCost flag own c (b .cost)) W maps rs ss c) where
-    better-yes : improves flag own c t (b .cost) ≡ true → taking c t ≡ betterIn W maps rs ss flag own b c
+  module _ (c : CandidateReg) (q : offerAt hs class i ≡ Offered c) (t : Tried) (e : t ≡ triedOn (byCost flag own c (b .cost)) W maps ws ss c) where
+    better-yes : improves flag own c t (b .cost) ≡ true → taking c t ≡ betterIn W maps ws ss flag own b c
     unfolding betterIn
     better-yes p = subst (λ (u : Tried). taking c t ≡ cond (improves flag own c u (b .cost)) (taking c u) b) e (rw p)
 
-    better-no : improves flag own c t (b .cost) ≡ false → b ≡ betterIn W maps rs ss flag own b c
+    better-no : improves flag own c t (b .cost) ≡ false → b ≡ betterIn W maps ws ss flag own b c
     unfolding betterIn
     better-no p = subst (λ (u : Tried). b ≡ cond (improves flag own c u (b .cost)) (taking c u) b) e (rw p)
 
-    here : evictIn W maps rs ss flag own (betterIn W maps rs ss flag own b c) (offersFrom hs class (i + 1)) ≡ evictIn W maps rs ss flag own b (offersFrom hs class i)
+    here : evictIn W maps ws ss flag own (betterIn W maps ws ss flag own b c) (offersFrom hs class (i + 1)) ≡ evictIn W maps ws ss flag own b (offersFrom hs class i)
     unfolding evictIn foldl
     here = rw (offers-step hs class i, q)
 
     pub evict-better : improves flag own c t (b .cost) ≡ true
-        → evictIn W maps rs ss flag own (taking c t) (offersFrom hs class (i + 1)) ≡ evictIn W maps rs ss flag own b (offersFrom hs class i)
-    evict-better p = ap (λ (x : Best). evictIn W maps rs ss flag own x (offersFrom hs class (i + 1))) (better-yes p) ∙ here
+        → evictIn W maps ws ss flag own (taking c t) (offersFrom hs class (i + 1)) ≡ evictIn W maps ws ss flag own b (offersFrom hs class i)
+    evict-better p = ap (λ (x : Best). evictIn W maps ws ss flag own x (offersFrom hs class (i + 1))) (better-yes p) ∙ here
 
-    pub evict-not : improves flag own c t (b .cost) ≡ false → evictIn W maps rs ss flag own b (offersFrom hs class (i + 1)) ≡ evictIn W maps rs ss flag own b (offersFrom hs class i)
-    evict-not p = ap (λ (x : Best). evictIn W maps rs ss flag own x (offersFrom hs class (i + 1))) (better-no p) ∙ here
+    pub evict-not : improves flag own c t (b .cost) ≡ false → evictIn W maps ws ss flag own b (offersFrom hs class (i + 1)) ≡ evictIn W maps ws ss flag own b (offersFrom hs class i)
+    evict-not p = ap (λ (x : Best). evictIn W maps ws ss flag own x (offersFrom hs class (i + 1))) (better-no p) ∙ here
 
 -- ---- one hinted candidate of the search for a preferred one
 
-module _ (W : Lent) (maps : List ℕ) (rs : List Assignment) (ss : List Float) (clear : CandidateReg) (hs : List CandidateReg) (i : ℕ) where
-  pub prefer-end : length hs ≤ i → noBest ≡ preferIn W maps rs ss clear (drop i hs)
+module _ (W : Lent) (maps : List ℕ) (ws : List Float) (ss : List Float) (clear : CandidateReg) (hs : List CandidateReg) (i : ℕ) where
+  pub prefer-end : length hs ≤ i → noBest ≡ preferIn W maps ws ss clear (drop i hs)
   unfolding preferIn
   prefer-end h = rw (drop-of-length-le hs h)
 
-  module _ (h : i < length hs) (c : CandidateReg) (q : c ≡ getD hs i noCandidate) (t : Tried) (e : t ≡ triedOn (byWeight c) W maps rs ss c) where
-    hinted-here : preferIn W maps rs ss clear (drop i hs) ≡ cond (prefers clear c (triedOn (byWeight c) W maps rs ss c)) (taking c (triedOn (byWeight c) W maps rs ss c)) (preferIn W maps rs ss clear (drop (i + 1) hs))
+  module _ (h : i < length hs) (c : CandidateReg) (q : c ≡ getD hs i noCandidate) (t : Tried) (e : t ≡ triedOn (byWeight c) W maps ws ss c) where
+    hinted-here : preferIn W maps ws ss clear (drop i hs) ≡ cond (prefers clear c (triedOn (byWeight c) W maps ws ss c)) (taking c (triedOn (byWeight c) W maps ws ss c)) (preferIn W maps ws ss clear (drop (i + 1) hs))
     unfolding preferIn
     hinted-here = rw (q, add-one, drop-cons hs i noCandidate)
 
-    pub prefer-yes : prefers clear c t ≡ true → taking c t ≡ preferIn W maps rs ss clear (drop i hs)
+    pub prefer-yes : prefers clear c t ≡ true → taking c t ≡ preferIn W maps ws ss clear (drop i hs)
     prefer-yes p =
-        subst (λ (u : Tried). taking c t ≡ cond (prefers clear c u) (taking c u) (preferIn W maps rs ss clear (drop (i + 1) hs))) e (rw p) ∙ sym hinted-here
+        subst (λ (u : Tried). taking c t ≡ cond (prefers clear c u) (taking c u) (preferIn W maps ws ss clear (drop (i + 1) hs))) e (rw p) ∙ sym hinted-here
 
-    pub prefer-no : prefers clear c t ≡ false → preferIn W maps rs ss clear (drop (i + 1) hs) ≡ preferIn W maps rs ss clear (drop i hs)
+    pub prefer-no : prefers clear c t ≡ false → preferIn W maps ws ss clear (drop (i + 1) hs) ≡ preferIn W maps ws ss clear (drop i hs)
     prefer-no p =
-        subst (λ (u : Tried). preferIn W maps rs ss clear (drop (i + 1) hs) ≡ cond (prefers clear c u) (taking c u) (preferIn W maps rs ss clear (drop (i + 1) hs))) e (rw p) ∙ sym hinted-here
+        subst (λ (u : Tried). preferIn W maps ws ss clear (drop (i + 1) hs) ≡ cond (prefers clear c u) (taking c u) (preferIn W maps ws ss clear (drop (i + 1) hs))) e (rw p) ∙ sym hinted-here

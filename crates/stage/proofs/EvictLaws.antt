@@ -19,10 +19,9 @@ use Rattle.matrix.specs.declared.Step.{Step}
 use Rattle.matrix.specs.declared.Step.the-variants.{Report, End}
 use Rattle.job.specs.Model.{Job, zeroWeight}
 use Rattle.allocator.specs.State.{State, heldBy, weightOf}
-use Rattle.allocator.specs.declared.Assignment.{Assignment}
 use Rattle.allocator.specs.Evict.{cheaper, ruledOut, isFixed, holder, holders, firsts, maxWeight, spillWeight, weights, greatestSpill, costOf}
 use Rattle.allocator.specs.declared.EvictCost.{EvictCost}
-use Rattle.stage.specs.EvictWalk.{recordWeight, noRecord, weightIn, holderCost, zeroCost, tried, onKind, tryReports, triedOf, canWin, withHolder, tryBelow}
+use Rattle.stage.specs.EvictWalk.{weightIn, holderCost, zeroCost, tried, onKind, tryReports, triedOf, canWin, withHolder, tryBelow}
 use Rattle.stage.specs.declared.evict.Tried.{Tried}
 use Rattle.stage.specs.declared.evict.Limit.{Limit}
 
@@ -70,14 +69,14 @@ abbrev pub before : List ℕ → List ℕ → List ℕ
 before [] vs = vs
 before (w ∷ ws) vs = before ws (w ∷ vs)
 
-module _ (rs : List Assignment) (ss : List Float) where
+module _ (ws : List Float) (ss : List Float) where
   -- the cost of these holders, one after another
   abbrev pub costOver : EvictCost → List ℕ → EvictCost
-  costOver k vs = foldl (holderCost rs ss) k vs
+  costOver k vs = foldl (holderCost ws ss) k vs
 
   -- and their weights, added one after another
   abbrev pub sumOver : Float → List ℕ → Float
-  sumOver w vs = foldl (λ w v. add binary32 w (weightIn rs v)) w vs
+  sumOver w vs = foldl (λ w v. add binary32 w (weightIn ws v)) w vs
 
   -- what the walk over reports of the holders hs finds, after those of vs
   pub record Rule (hs : List ℕ) (k : EvictCost) (w : Float) (vs : List ℕ) (t : Tried) : Type 0 where
@@ -90,12 +89,12 @@ module _ (rs : List Assignment) (ss : List Float) where
   abbrev more : List Interference → EvictCost → Float → List Bool → ℕ → Tried
   more xs k w seen v =
       cond (ltb v 512)
-      (cond (getD seen v false) (tryReports rs ss xs k (add binary32 w (weightIn rs v)) seen) (tryReports rs ss xs (holderCost rs ss k v) (add binary32 w (weightIn rs v)) (set seen v true)))
-      (tryReports rs ss xs k w seen)
+      (cond (getD seen v false) (tryReports ws ss xs k (add binary32 w (weightIn ws v)) seen) (tryReports ws ss xs (holderCost ws ss k v) (add binary32 w (weightIn ws v)) (set seen v true)))
+      (tryReports ws ss xs k w seen)
 
   -- where no report is fixed: the cost of the holders not seen before, each at its first report, and all of them are seen then
   pub rule : (xs : List Interference) (k : EvictCost) (w : Float) (seen : List Bool) (vs : List ℕ) → Small (holders xs) → Seen seen vs → ruledOut xs ≡ false
-      → Rule (holders xs) k w vs (tryReports rs ss xs k w seen)
+      → Rule (holders xs) k w vs (tryReports ws ss xs k w seen)
   unfolding tryReports holders concatMap firsts ruledOut any foldl
   rule [] k w seen vs s f r = record { clean = refl; cost = refl; every = refl; who = f }
   rule (x ∷ xs) k w seen vs s f r = step (x .kind) s r (λ k w seen vs m f q. rule xs k w seen vs m f q)
@@ -103,16 +102,16 @@ module _ (rs : List Assignment) (ss : List Float) where
       Rest : Type 0
       Rest =
           (k : EvictCost) (w : Float) (seen : List Bool) (vs : List ℕ) → Small (holders xs) → Seen seen vs → ruledOut xs ≡ false
-          → Rule (holders xs) k w vs (tryReports rs ss xs k w seen)
+          → Rule (holders xs) k w vs (tryReports ws ss xs k w seen)
 
       one : (v : ℕ) → v < 512 → Small (holders xs) → ruledOut xs ≡ false → Rest → (b : Bool) → getD seen v false ≡ b
-          → Rule (v ∷ holders xs) k w vs (cond (ltb v 512) (cond b (tryReports rs ss xs k (add binary32 w (weightIn rs v)) seen) (tryReports rs ss xs (holderCost rs ss k v) (add binary32 w (weightIn rs v)) (set seen v true))) (tryReports rs ss xs k w seen))
+          → Rule (v ∷ holders xs) k w vs (cond (ltb v 512) (cond b (tryReports ws ss xs k (add binary32 w (weightIn ws v)) seen) (tryReports ws ss xs (holderCost ws ss k v) (add binary32 w (weightIn ws v)) (set seen v true))) (tryReports ws ss xs k w seen))
       one v h m q go true e =
-          let again = go k (add binary32 w (weightIn rs v)) seen (v ∷ vs) m (seen-again seen vs v e f) q in
+          let again = go k (add binary32 w (weightIn ws v)) seen (v ∷ vs) m (seen-again seen vs v e f) q in
           let known : has v vs ≡ true = sym (f .place v h) ∙ e in
           rw (lt-ltb v 512 h) (record { clean = again .clean; cost = rw known (again .cost); every = again .every; who = again .who })
       one v h m q go false e =
-          let later = go (holderCost rs ss k v) (add binary32 w (weightIn rs v)) (set seen v true) (v ∷ vs) m (seen-more seen vs v h f) q in
+          let later = go (holderCost ws ss k v) (add binary32 w (weightIn ws v)) (set seen v true) (v ∷ vs) m (seen-more seen vs v h f) q in
           let new : has v vs ≡ false = sym (f .place v h) ∙ e in
           rw (lt-ltb v 512 h) (record { clean = later .clean; cost = rw new (later .cost); every = later .every; who = later .who })
 
@@ -122,13 +121,13 @@ module _ (rs : List Assignment) (ss : List Float) where
       step (VirtReg v) s r go = one v (s .0) (s .1) r go (getD seen v false) refl
 
   -- where one is fixed, the walk says so
-  pub rule-out : (xs : List Interference) (k : EvictCost) (w : Float) (seen : List Bool) → ruledOut xs ≡ true → tryReports rs ss xs k w seen .«ruled_out» ≡ true
+  pub rule-out : (xs : List Interference) (k : EvictCost) (w : Float) (seen : List Bool) → ruledOut xs ≡ true → tryReports ws ss xs k w seen .«ruled_out» ≡ true
   unfolding tryReports ruledOut any
   rule-out [] k w seen r = let z : _≡_ {A = ℕ} 0 1 = cc in absurd (omega arith)
   rule-out (x ∷ xs) k w seen r = step (x .kind) r (λ k w seen q. rule-out xs k w seen q)
     where
       Rest : Type 0
-      Rest = (k : EvictCost) (w : Float) (seen : List Bool) → ruledOut xs ≡ true → tryReports rs ss xs k w seen .«ruled_out» ≡ true
+      Rest = (k : EvictCost) (w : Float) (seen : List Bool) → ruledOut xs ≡ true → tryReports ws ss xs k w seen .«ruled_out» ≡ true
 
       either-way : (b : Bool) (t u : Tried) → t .«ruled_out» ≡ true → u .«ruled_out» ≡ true → cond b t u .«ruled_out» ≡ true
       either-way true t u p q = p
@@ -137,7 +136,7 @@ module _ (rs : List Assignment) (ss : List Float) where
       step : (kd : InterferenceKind) → (isFixed kd || ruledOut xs) ≡ true → Rest → onKind kd (tried k w seen true) (more xs k w seen) .«ruled_out» ≡ true
       step Fixed r go = refl
       step (VirtReg v) r go =
-          either-way (ltb v 512) _ _ (either-way (getD seen v false) _ _ (go k (add binary32 w (weightIn rs v)) seen r) (go (holderCost rs ss k v) (add binary32 w (weightIn rs v)) (set seen v true) r)) (go k w seen r)
+          either-way (ltb v 512) _ _ (either-way (getD seen v false) _ _ (go k (add binary32 w (weightIn ws v)) seen r) (go (holderCost ws ss k v) (add binary32 w (weightIn ws v)) (set seen v true) r)) (go k w seen r)
 
 -- ---- the rule's cost and evictees
 
@@ -152,8 +151,8 @@ has-before v (w ∷ ws) vs = has-before v ws (w ∷ vs) ∙ turned (eqb v w) (ha
     turned true false c = refl
     turned false b c = refl
 
-module _ (j : Job) (s : State) (rs : List Assignment) (ss : List Float)
-    (held : (v : ℕ) → v < 512 → recordWeight (getD rs v noRecord) ≡ weightOf (heldBy s v))
+module _ (j : Job) (s : State) (ws : List Float) (ss : List Float)
+    (held : (v : ℕ) → v < 512 → weightIn ws v ≡ weightOf (heldBy s v))
     (spill : (v : ℕ) → v < 512 → getD ss v zeroWeight ≡ spillWeight j v) where
   abbrev ruleCost : EvictCost → List ℕ → EvictCost
   ruleCost k vs =
@@ -162,15 +161,15 @@ module _ (j : Job) (s : State) (rs : List Assignment) (ss : List Float)
         «spill_weight» = foldl (λ w v. maxWeight w (spillWeight j v)) (k .«spill_weight») vs;
       }
 
-  cost-over : (k : EvictCost) (vs : List ℕ) → Small vs → costOver rs ss k vs ≡ ruleCost k vs
+  cost-over : (k : EvictCost) (vs : List ℕ) → Small vs → costOver ws ss k vs ≡ ruleCost k vs
   unfolding foldl
   cost-over k [] m = refl
   cost-over k (v ∷ vs) m =
-      let one : holderCost rs ss k v ≡ record { «preference_weight» = add binary32 (k .«preference_weight») (weightOf (heldBy s v)); «spill_weight» = maxWeight (k .«spill_weight») (spillWeight j v) } =
+      let one : holderCost ws ss k v ≡ record { «preference_weight» = add binary32 (k .«preference_weight») (weightOf (heldBy s v)); «spill_weight» = maxWeight (k .«spill_weight») (spillWeight j v) } =
       rw (held v (m .0), spill v (m .0)) in
-      cost-over (holderCost rs ss k v) vs (m .1) ∙ ap (λ (c : EvictCost). ruleCost c vs) one
+      cost-over (holderCost ws ss k v) vs (m .1) ∙ ap (λ (c : EvictCost). ruleCost c vs) one
 
-  sum-over : (w : Float) (vs : List ℕ) → Small vs → sumOver rs ss w vs ≡ foldl (λ w v. add binary32 w (weightOf (heldBy s v))) w vs
+  sum-over : (w : Float) (vs : List ℕ) → Small vs → sumOver ws ss w vs ≡ foldl (λ w v. add binary32 w (weightOf (heldBy s v))) w vs
   unfolding foldl
   sum-over w [] m = refl
   sum-over w (v ∷ vs) m = rw (held v (m .0)) (sum-over (add binary32 w (weightOf (heldBy s v))) vs (m .1))
@@ -191,10 +190,10 @@ module _ (j : Job) (s : State) (rs : List Assignment) (ss : List Float)
     pub every : t .«every_report» ≡ weights s (holders xs)
     pub who : (v : ℕ) → v < 512 → getD (t .holders) v false ≡ has v (holders xs)
 
-  pub found : (xs : List Interference) → Small (holders xs) → ruledOut xs ≡ false → Found xs (triedOf rs ss xs)
+  pub found : (xs : List Interference) → Small (holders xs) → ruledOut xs ≡ false → Found xs (triedOf ws ss xs)
   unfolding triedOf costOf weights greatestSpill has
   found xs m r =
-      let q = rule rs ss xs zeroCost zeroWeight (replicate 512 false) [] m none-seen r in
+      let q = rule ws ss xs zeroCost zeroWeight (replicate 512 false) [] m none-seen r in
       record {
         clean = q .clean;
         cost = q .cost ∙ cost-over zeroCost (firsts [] (holders xs)) (first-small [] (holders xs) m);
@@ -218,27 +217,27 @@ module _ (W : Lent) (c : Cursor) (x : Step) (told : remaining W c ≡ heard W x)
   pub next-less : length (remaining W d) < length (remaining W c)
   next-less = rw next-is (omega arith)
 
-module _ (l : Limit) (rs : List Assignment) (ss : List Float) (W : Lent) (c : Cursor) (x : Step) (k : EvictCost) (w : Float) (seen : List Bool) (told : remaining W c ≡ heard W x) where
-  pub below-end : x ≡ End → tried k w seen false ≡ tryBelow l rs ss (remaining W c) k w seen
+module _ (l : Limit) (ws : List Float) (ss : List Float) (W : Lent) (c : Cursor) (x : Step) (k : EvictCost) (w : Float) (seen : List Bool) (told : remaining W c ≡ heard W x) where
+  pub below-end : x ≡ End → tried k w seen false ≡ tryBelow l ws ss (remaining W c) k w seen
   unfolding tryBelow
   below-end q = rw (told, q)
 
   module _ (r : Interference) (d : Cursor) (q : x ≡ Report r d) where
-    pub below-fixed : r .kind ≡ Fixed → tried k w seen true ≡ tryBelow l rs ss (remaining W c) k w seen
+    pub below-fixed : r .kind ≡ Fixed → tried k w seen true ≡ tryBelow l ws ss (remaining W c) k w seen
     unfolding tryBelow
     below-fixed p = rw (next-is W c x told r d q, p)
 
     module _ (v : ℕ) (p : r .kind ≡ VirtReg v) where
-      pub below-far : ltb v 512 ≡ false → tryBelow l rs ss (remaining W d) k w seen ≡ tryBelow l rs ss (remaining W c) k w seen
+      pub below-far : ltb v 512 ≡ false → tryBelow l ws ss (remaining W d) k w seen ≡ tryBelow l ws ss (remaining W c) k w seen
       unfolding tryBelow
       below-far h = rw (next-is W c x told r d q, p, h)
 
       module _ (small : ltb v 512 ≡ true) (k′ : EvictCost) (w′ : Float)
-          (ek : k′ ≡ withHolder k (getD seen v false) (weightIn rs v) (getD ss v zeroWeight)) (ew : w′ ≡ add binary32 w (weightIn rs v)) where
-        pub below-more : canWin l k′ w′ ≡ true → tryBelow l rs ss (remaining W d) k′ w′ (set seen v true) ≡ tryBelow l rs ss (remaining W c) k w seen
+          (ek : k′ ≡ withHolder k (getD seen v false) (weightIn ws v) (getD ss v zeroWeight)) (ew : w′ ≡ add binary32 w (weightIn ws v)) where
+        pub below-more : canWin l k′ w′ ≡ true → tryBelow l ws ss (remaining W d) k′ w′ (set seen v true) ≡ tryBelow l ws ss (remaining W c) k w seen
         unfolding tryBelow
         below-more n = rw (next-is W c x told r d q, p, small, ← ek, ← ew, n)
 
-        pub below-stop : canWin l k′ w′ ≡ false → tried k′ w′ (set seen v true) true ≡ tryBelow l rs ss (remaining W c) k w seen
+        pub below-stop : canWin l k′ w′ ≡ false → tried k′ w′ (set seen v true) true ≡ tryBelow l ws ss (remaining W c) k w seen
         unfolding tryBelow
         below-stop n = rw (next-is W c x told r d q, p, small, ← ek, ← ew, n)

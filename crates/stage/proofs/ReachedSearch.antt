@@ -25,7 +25,7 @@ use Rattle.job.specs.Layout.{jobBuffers}
 use Rattle.job.proofs.Premises.{IsNumber}
 use Rattle.job.proofs.Lists.{filter-same}
 use Rattle.allocator.specs.State.{State, heldBy, isLeftOver, flag, lastGiven, weightOf, checkOf, assignment, recordOf, records}
-use Rattle.allocator.specs.declared.Assignment.{Assignment}
+use Rattle.allocator.specs.declared.Assignment.the-variants.{Dead}
 use Rattle.allocator.specs.declared.CandidateReg.{CandidateReg}
 use Rattle.allocator.specs.declared.EvictCost.{EvictCost}
 use Rattle.allocator.specs.declared.Stage.{Stage}
@@ -39,7 +39,7 @@ use Rattle.allocator.proofs.Capacity.{hinted-length, held-plain, spill-plain}
 use Rattle.allocator.proofs.Rebuilt.{named-known}
 use Rattle.allocator.proofs.Good.{Good}
 use Rattle.allocator.proofs.Records.{held-record}
-use Rattle.stage.specs.EvictWalk.{recordWeight, noRecord, weightIn, mayEvict, triedOf}
+use Rattle.stage.specs.EvictWalk.{recordWeight, weightIn, mayEvict, triedOf}
 use Rattle.stage.specs.AllocateWalk.{reportsOn, clearOn, noneOf, availableIn, noBest, taking, triedOn, improves, betterIn, evictIn, prefers, preferIn}
 use Rattle.stage.specs.declared.evict.Tried.{Tried}
 use Rattle.stage.specs.declared.allocate.Best.{Best}
@@ -83,15 +83,20 @@ module _ (j : Job) (s : State) (g : Good j s) (v : ℕ) (b : IsNumber j v) where
 
 -- ---- what else is lent to a search
 
--- the registers' maps and the spill weights, as loading leaves them with whatever is lent behind, and the records
-pub record SearchLent (j : Job) (s : State) (maps : List ℕ) (rs : List Assignment) (ss : List Float) : Type 0 where
+-- the record of v among the 512
+pub record-read : (s : State) (v : ℕ) → v < 512 → getD (records s) v Dead ≡ recordOf s v
+unfolding records
+record-read s v h = from-zero (recordOf s) Dead 512 v h
+
+-- the registers' maps and the spill weights, as loading leaves them with whatever is lent behind, and the weights held
+pub record SearchLent (j : Job) (s : State) (maps : List ℕ) (ws : List Float) (ss : List Float) : Type 0 where
   pub maps-behind : List ℕ
   pub spills-behind : List Float
   pub maps-are : maps ≡ jobBuffers j .regs ++ maps-behind
-  pub records-are : rs ≡ records s
+  pub held-are : ws ≡ map recordWeight (records s)
   pub spills-are : ss ≡ jobBuffers j .spillWeights ++ spills-behind
 
-module _ (j : Job) (s : State) (g : Good j s) (maps : List ℕ) (rs : List Assignment) (ss : List Float) (S : SearchLent j s maps rs ss) where
+module _ (j : Job) (s : State) (g : Good j s) (maps : List ℕ) (ws : List Float) (ss : List Float) (S : SearchLent j s maps ws ss) where
   pub map-read : (r : ℕ) → r < 64 → getD maps r 0 ≡ unitMap j r
   unfolding jobBuffers
   map-read r h = rw (S .maps-are) (padded-read 64 0 (j .regs) (S .maps-behind) r (g .premises .few-regs) h)
@@ -104,13 +109,11 @@ module _ (j : Job) (s : State) (g : Good j s) (maps : List ℕ) (rs : List Assig
       (simp length-map (g .premises .few-numbers)) h
       ∙ List·getD-map (λ (x : model.VirtReg). x .spillWeight) (j .virtRegs) v noVirtReg)
 
-  pub record-read : (v : ℕ) → v < 512 → getD rs v noRecord ≡ recordOf s v
-  unfolding records
-  record-read v h = rw (S .records-are) (from-zero (recordOf s) noRecord 512 v h)
-
-  pub held-read : (v : ℕ) → v < 512 → recordWeight (getD rs v noRecord) ≡ weightOf (heldBy s v)
+  pub held-read : (v : ℕ) → v < 512 → weightIn ws v ≡ weightOf (heldBy s v)
   unfolding recordOf
-  held-read v h = ap recordWeight (record-read v h) ∙ go (heldBy s v) refl
+  held-read v h =
+      ap (λ (l : List Float). getD l v zeroWeight) (S .held-are) ∙ List·getD-map recordWeight (records s) v Dead ∙ ap recordWeight (record-read s v h)
+      ∙ go (heldBy s v) refl
     where
       nothing : (l : Bool) → recordWeight (assignment l (flag s v) none) ≡ zeroWeight
       nothing true = refl
@@ -175,7 +178,7 @@ abbrev weight : CandidateReg → Float
 weight c = c .«preference_weight»
 
 module _ (j : Job) (s : State) (g : Good j s) (v : ℕ) (b : IsNumber j v) (W : Lent) (L : LaidOut j s v W)
-    (maps : List ℕ) (rs : List Assignment) (ss : List Float) (S : SearchLent j s maps rs ss) where
+    (maps : List ℕ) (ws : List Float) (ss : List Float) (S : SearchLent j s maps ws ss) where
   -- what the rule's check lists for a candidate, and its cost
   abbrev reported : CandidateReg → List Interference
   reported c = checkOf j s v (c .reg)
@@ -185,13 +188,13 @@ module _ (j : Job) (s : State) (g : Good j s) (v : ℕ) (b : IsNumber j v) (W : 
 
   -- what all its reports say, in the code; and the best with it, as far as it may still win
   abbrev tried : CandidateReg → Tried
-  tried c = triedOf rs ss (reportsOn W (getD maps (c .reg) 0))
+  tried c = triedOf ws ss (reportsOn W (getD maps (c .reg) 0))
 
   abbrev betterHere : Best → CandidateReg → Best
-  betterHere = betterIn W maps rs ss (flag s v) (spillWeight j v)
+  betterHere = betterIn W maps ws ss (flag s v) (spillWeight j v)
 
   reports-read : (c : CandidateReg) → c .reg < 64 → reportsOn W (getD maps (c .reg) 0) ≡ reported c
-  reports-read c h = ap (reportsOn W) (map-read j s g maps rs ss S (c .reg) h) ∙ reports-are j s g v b W L (c .reg)
+  reports-read c h = ap (reportsOn W) (map-read j s g maps ws ss S (c .reg) h) ∙ reports-are j s g v b W L (c .reg)
 
   -- ---- a clear candidate
 
@@ -256,15 +259,15 @@ module _ (j : Job) (s : State) (g : Good j s) (v : ℕ) (b : IsNumber j v) (W : 
   -- ---- what the reports say of a candidate
 
   abbrev pub FoundOn : CandidateReg → Type 0
-  FoundOn c = Found j s rs ss (held-read j s g maps rs ss S) (spill-read j s g maps rs ss S) (reported c) (tried c)
+  FoundOn c = Found j s ws ss (held-read j s g maps ws ss S) (spill-read j s g maps ws ss S) (reported c) (tried c)
 
   -- its cost, the sum at every report and its holders, where no report is fixed
   pub tried-found : (c : CandidateReg) → c .reg < 64 → ruledOut (reported c) ≡ false → FoundOn c
   tried-found c h q =
       subst
-      (λ (xs : List Interference). Found j s rs ss (held-read j s g maps rs ss S) (spill-read j s g maps rs ss S) (reported c) (triedOf rs ss xs))
+      (λ (xs : List Interference). Found j s ws ss (held-read j s g maps ws ss S) (spill-read j s g maps ws ss S) (reported c) (triedOf ws ss xs))
       (sym (reports-read c h))
-      (found j s rs ss (held-read j s g maps rs ss S) (spill-read j s g maps rs ss S) (reported c) (reported-small j s g v (c .reg)) q)
+      (found j s ws ss (held-read j s g maps ws ss S) (spill-read j s g maps ws ss S) (reported c) (reported-small j s g v (c .reg)) q)
 
   -- a fixed report rules it out
   pub ruled-out-found : (c : CandidateReg) → c .reg < 64 → tried c .«ruled_out» ≡ ruledOut (reported c)
@@ -272,7 +275,7 @@ module _ (j : Job) (s : State) (g : Good j s) (v : ℕ) (b : IsNumber j v) (W : 
   ruled-out-found c h = go (ruledOut (reported c)) refl
     where
       go : (z : Bool) → ruledOut (reported c) ≡ z → tried c .«ruled_out» ≡ z
-      go true q = rule-out rs ss (reportsOn W (getD maps (c .reg) 0)) _ _ _ (ap ruledOut (reports-read c h) ∙ q)
+      go true q = rule-out ws ss (reportsOn W (getD maps (c .reg) 0)) _ _ _ (ap ruledOut (reports-read c h) ∙ q)
       go false q = tried-found c h q .clean
 
   -- ---- the search for a register to evict from
@@ -332,13 +335,13 @@ module _ (j : Job) (s : State) (g : Good j s) (v : ℕ) (b : IsNumber j v) (W : 
   best-cost best (some e) q = q .1
 
   -- the weights that are added and compared
-  held-plain-here : (w : ℕ) → w < 512 → Plain (weightIn rs w)
+  held-plain-here : (w : ℕ) → w < 512 → Plain (weightIn ws w)
   held-plain-here w h =
-      subst (λ (x : Float). Plain x) (sym (held-read j s g maps rs ss S w h)) (held-plain j (g .premises) s (g .holding) (g .agrees) w (heldBy s w) refl)
+      subst (λ (x : Float). Plain x) (sym (held-read j s g maps ws ss S w h)) (held-plain j (g .premises) s (g .holding) (g .agrees) w (heldBy s w) refl)
 
   spill-plain-here : (w : ℕ) → w < 512 → Plain (getD ss w zeroWeight)
   spill-plain-here w h =
-      subst (λ (x : Float). Plain x) (sym (spill-read j s g maps rs ss S w h)) (spill-plain j (g .premises) s (g .holding) (g .agrees) w)
+      subst (λ (x : Float). Plain x) (sym (spill-read j s g maps ws ss S w h)) (spill-plain j (g .premises) s (g .holding) (g .agrees) w)
 
   weights-good : (vs : List ℕ) → GoodSum (weights s vs)
   unfolding weights foldl
@@ -360,7 +363,7 @@ module _ (j : Job) (s : State) (g : Good j s) (v : ℕ) (b : IsNumber j v) (W : 
       → betterHere best c ≡ cond (improves (flag s v) (spillWeight j v) c (tried c) (best .cost)) (taking c (tried c)) best
   unfolding betterIn triedOn
   better-whole best o c q =
-      better-same rs ss held-plain-here spill-plain-here (reportsOn W (getD maps (c .reg) 0)) (flag s v) (spillWeight j v) c best (best-good best o q)
+      better-same ws ss held-plain-here spill-plain-here (reportsOn W (getD maps (c .reg) 0)) (flag s v) (spillWeight j v) c best (best-good best o q)
 
   better-is : (best : Best) (o : Option Eviction) (c : CandidateReg) → c .reg < 64 → BestIs best o → BestIs (betterHere best c) (better j s v o c)
   unfolding better
@@ -380,7 +383,7 @@ module _ (j : Job) (s : State) (g : Good j s) (v : ℕ) (b : IsNumber j v) (W : 
       go false e = q
 
   -- the best eviction
-  pub eviction-found : (cs : List CandidateReg) → SmallRegs cs → BestIs (evictIn W maps rs ss (flag s v) (spillWeight j v) noBest cs) (tryEvict j s v cs)
+  pub eviction-found : (cs : List CandidateReg) → SmallRegs cs → BestIs (evictIn W maps ws ss (flag s v) (spillWeight j v) noBest cs) (tryEvict j s v cs)
   unfolding evictIn tryEvict foldl
   eviction-found cs h = go cs h noBest none refl
     where
@@ -414,13 +417,13 @@ module _ (j : Job) (s : State) (g : Good j s) (v : ℕ) (b : IsNumber j v) (W : 
   pub preferred-found :
       (clear : CandidateReg) (cs : List CandidateReg)
       → SmallRegs cs
-      → PreferredIs (preferIn W maps rs ss clear cs) (first (preferred j s v clear) cs)
+      → PreferredIs (preferIn W maps ws ss clear cs) (first (preferred j s v clear) cs)
   unfolding preferIn first preferred triedOn
   preferred-found clear [] h = refl
   preferred-found clear (c ∷ cs) h =
       subst (λ (x : Best). PreferredIs x (first (preferred j s v clear) (c ∷ cs)))
-      (sym (preferred-same rs ss held-plain-here spill-plain-here (reportsOn W (getD maps (c .reg) 0)) clear c (preferIn W maps rs ss clear cs)))
-      (subst (λ (z : Bool). PreferredIs (cond z (taking c (tried c)) (preferIn W maps rs ss clear cs)) (first (preferred j s v clear) (c ∷ cs)))
+      (sym (preferred-same ws ss held-plain-here spill-plain-here (reportsOn W (getD maps (c .reg) 0)) clear c (preferIn W maps ws ss clear cs)))
+      (subst (λ (z : Bool). PreferredIs (cond z (taking c (tried c)) (preferIn W maps ws ss clear cs)) (first (preferred j s v clear) (c ∷ cs)))
       (sym (prefers-is clear c (h c (List·Memᴰ·head refl))))
       (go (preferred j s v clear c) refl (preferred-found clear cs (λ d m. h d (List·Memᴰ·tail m)))))
     where
@@ -430,8 +433,8 @@ module _ (j : Job) (s : State) (g : Good j s) (v : ℕ) (b : IsNumber j v) (W : 
       not-ruled-out false r z e = absurd (let y : _≡_ {A = ℕ} 0 1 = cc in omega arith)
 
       go : (z : Bool) → preferred j s v clear c ≡ z
-          → PreferredIs (preferIn W maps rs ss clear cs) (first (preferred j s v clear) cs)
-          → PreferredIs (cond z (taking c (tried c)) (preferIn W maps rs ss clear cs)) (orElse z c (first (preferred j s v clear) cs))
+          → PreferredIs (preferIn W maps ws ss clear cs) (first (preferred j s v clear) cs)
+          → PreferredIs (cond z (taking c (tried c)) (preferIn W maps ws ss clear cs)) (orElse z c (first (preferred j s v clear) cs))
       go true e ih =
           takes-it c (h c (List·Memᴰ·head refl))
           (not-ruled-out (lt (weight clear) (weight c)) (ruledOut (reported c)) (lt (weights s (holders (reported c))) (weight c)) e)

@@ -17,7 +17,6 @@ use Rattle.reg_matrix.specs.declared.Interference.{Interference}
 use Rattle.reg_matrix.specs.declared.InterferenceKind.{InterferenceKind}
 use Rattle.reg_matrix.specs.declared.InterferenceKind.the-variants.{Fixed, VirtReg}
 use Rattle.job.specs.Model.{Plain, zeroWeight}
-use Rattle.allocator.specs.declared.Assignment.{Assignment}
 use Rattle.allocator.specs.declared.CandidateReg.{CandidateReg}
 use Rattle.allocator.specs.declared.EvictCost.{EvictCost}
 use Rattle.allocator.specs.Evict.{cheaper, maxWeight}
@@ -144,13 +143,13 @@ module _ (l : Limit) (best-good : GoodSum (l .best .«preference_weight»)) wher
 
   -- ---- the whole walk and the one that stops
 
-  module _ (rs : List Assignment) (ss : List Float) (held : (v : ℕ) → v < 512 → Plain (weightIn rs v)) (spills : (v : ℕ) → v < 512 → Plain (getD ss v zeroWeight)) where
+  module _ (ws : List Float) (ss : List Float) (held : (v : ℕ) → v < 512 → Plain (weightIn ws v)) (spills : (v : ℕ) → v < 512 → Plain (getD ss v zeroWeight)) where
     -- one report of a holder in the whole walk
     one-holder : (xs : List Interference) (k : EvictCost) (w : Float) (seen : List Bool) (v : ℕ) (b : Bool) → getD seen v false ≡ b
-        → cond b (tryReports rs ss xs k (add binary32 w (weightIn rs v)) seen) (tryReports rs ss xs (addHolder k (weightIn rs v) (getD ss v zeroWeight)) (add binary32 w (weightIn rs v)) (set seen v true))
-        ≡ tryReports rs ss xs (withHolder k b (weightIn rs v) (getD ss v zeroWeight)) (add binary32 w (weightIn rs v)) (set seen v true)
+        → cond b (tryReports ws ss xs k (add binary32 w (weightIn ws v)) seen) (tryReports ws ss xs (addHolder k (weightIn ws v) (getD ss v zeroWeight)) (add binary32 w (weightIn ws v)) (set seen v true))
+        ≡ tryReports ws ss xs (withHolder k b (weightIn ws v) (getD ss v zeroWeight)) (add binary32 w (weightIn ws v)) (set seen v true)
     one-holder xs k w seen v true e =
-        ap (λ (l : List Bool). tryReports rs ss xs k (add binary32 w (weightIn rs v)) l) (sym (subst (λ (t : Bool). set seen v t ≡ seen) e (set-getD seen v false)))
+        ap (λ (l : List Bool). tryReports ws ss xs k (add binary32 w (weightIn ws v)) l) (sym (subst (λ (t : Bool). set seen v t ≡ seen) e (set-getD seen v false)))
     one-holder xs k w seen v false e = refl
 
     -- the candidate does not win in the end
@@ -158,26 +157,26 @@ module _ (l : Limit) (best-good : GoodSum (l .best .«preference_weight»)) wher
     Lost t = (t .«ruled_out» ≡ true) ⊎ (canWin l (t .cost) (t .«every_report») ≡ false)
 
     abbrev NextCost : EvictCost → List Bool → ℕ → EvictCost
-    NextCost k seen v = withHolder k (getD seen v false) (weightIn rs v) (getD ss v zeroWeight)
+    NextCost k seen v = withHolder k (getD seen v false) (weightIn ws v) (getD ss v zeroWeight)
 
     stays-lost : (xs : List Interference) (k : EvictCost) (w : Float) (seen : List Bool) → GoodCost k → GoodSum w → canWin l k w ≡ false
-        → Lost (tryReports rs ss xs k w seen)
+        → Lost (tryReports ws ss xs k w seen)
     unfolding tryReports
     stays-lost [] k w seen g gw e = inr e
     stays-lost (x ∷ xs) k w seen g gw e = step (x .kind) (λ k w seen g gw e. stays-lost xs k w seen g gw e)
       where
         Rest : Type 0
-        Rest = (k : EvictCost) (w : Float) (seen : List Bool) → GoodCost k → GoodSum w → canWin l k w ≡ false → Lost (tryReports rs ss xs k w seen)
+        Rest = (k : EvictCost) (w : Float) (seen : List Bool) → GoodCost k → GoodSum w → canWin l k w ≡ false → Lost (tryReports ws ss xs k w seen)
 
         small : Rest → (v : ℕ) (t : Bool) → ltb v 512 ≡ t
             → Lost
             (cond t
-            (cond (getD seen v false) (tryReports rs ss xs k (add binary32 w (weightIn rs v)) seen) (tryReports rs ss xs (addHolder k (weightIn rs v) (getD ss v zeroWeight)) (add binary32 w (weightIn rs v)) (set seen v true)))
-            (tryReports rs ss xs k w seen))
+            (cond (getD seen v false) (tryReports ws ss xs k (add binary32 w (weightIn ws v)) seen) (tryReports ws ss xs (addHolder k (weightIn ws v) (getD ss v zeroWeight)) (add binary32 w (weightIn ws v)) (set seen v true)))
+            (tryReports ws ss xs k w seen))
         small go v true q =
             let b = ltb-true v 512 q in
             subst Lost (sym (one-holder xs k w seen v (getD seen v false) refl))
-            (go (NextCost k seen v) (add binary32 w (weightIn rs v)) (set seen v true) (more-cost k _ _ g (held v b) (spills v b) (getD seen v false))
+            (go (NextCost k seen v) (add binary32 w (weightIn ws v)) (set seen v true) (more-cost k _ _ g (held v b) (spills v b) (getD seen v false))
             (more-sum w _ gw (held v b)) (lost-stays k w _ _ g gw (held v b) (spills v b) (getD seen v false) e))
         small go v false q = go k w seen g gw e
 
@@ -186,8 +185,8 @@ module _ (l : Limit) (best-good : GoodSum (l .best .«preference_weight»)) wher
             (onKind kd (tried k w seen true)
             (λ v.
             cond (ltb v 512)
-            (cond (getD seen v false) (tryReports rs ss xs k (add binary32 w (weightIn rs v)) seen) (tryReports rs ss xs (addHolder k (weightIn rs v) (getD ss v zeroWeight)) (add binary32 w (weightIn rs v)) (set seen v true)))
-            (tryReports rs ss xs k w seen)))
+            (cond (getD seen v false) (tryReports ws ss xs k (add binary32 w (weightIn ws v)) seen) (tryReports ws ss xs (addHolder k (weightIn ws v) (getD ss v zeroWeight)) (add binary32 w (weightIn ws v)) (set seen v true)))
+            (tryReports ws ss xs k w seen)))
         step Fixed go = inl refl
         step (VirtReg v) go = small go v (ltb v 512) refl
 
@@ -196,37 +195,37 @@ module _ (l : Limit) (best-good : GoodSum (l .best .«preference_weight»)) wher
     SameOrLost t′ t = (t′ ≡ t) ⊎ ((t′ .«ruled_out» ≡ true) × Lost t)
 
     same-or-lost : (xs : List Interference) (k : EvictCost) (w : Float) (seen : List Bool) → GoodCost k → GoodSum w
-        → SameOrLost (tryBelow l rs ss xs k w seen) (tryReports rs ss xs k w seen)
+        → SameOrLost (tryBelow l ws ss xs k w seen) (tryReports ws ss xs k w seen)
     unfolding tryReports tryBelow
     same-or-lost [] k w seen g gw = inl refl
     same-or-lost (x ∷ xs) k w seen g gw = step (x .kind) (λ k w seen g gw. same-or-lost xs k w seen g gw)
       where
         Rest : Type 0
-        Rest = (k : EvictCost) (w : Float) (seen : List Bool) → GoodCost k → GoodSum w → SameOrLost (tryBelow l rs ss xs k w seen) (tryReports rs ss xs k w seen)
+        Rest = (k : EvictCost) (w : Float) (seen : List Bool) → GoodCost k → GoodSum w → SameOrLost (tryBelow l ws ss xs k w seen) (tryReports ws ss xs k w seen)
 
-        next : (v : ℕ) → v < 512 → Rest → (z : Bool) → canWin l (NextCost k seen v) (add binary32 w (weightIn rs v)) ≡ z
+        next : (v : ℕ) → v < 512 → Rest → (z : Bool) → canWin l (NextCost k seen v) (add binary32 w (weightIn ws v)) ≡ z
             → SameOrLost
-            (cond z (tryBelow l rs ss xs (NextCost k seen v) (add binary32 w (weightIn rs v)) (set seen v true)) (tried (NextCost k seen v) (add binary32 w (weightIn rs v)) (set seen v true) true))
-            (tryReports rs ss xs (NextCost k seen v) (add binary32 w (weightIn rs v)) (set seen v true))
-        next v b go true q = go (NextCost k seen v) (add binary32 w (weightIn rs v)) (set seen v true) (more-cost k _ _ g (held v b) (spills v b) (getD seen v false)) (more-sum w _ gw (held v b))
+            (cond z (tryBelow l ws ss xs (NextCost k seen v) (add binary32 w (weightIn ws v)) (set seen v true)) (tried (NextCost k seen v) (add binary32 w (weightIn ws v)) (set seen v true) true))
+            (tryReports ws ss xs (NextCost k seen v) (add binary32 w (weightIn ws v)) (set seen v true))
+        next v b go true q = go (NextCost k seen v) (add binary32 w (weightIn ws v)) (set seen v true) (more-cost k _ _ g (held v b) (spills v b) (getD seen v false)) (more-sum w _ gw (held v b))
         next v b go false q =
             inr (
               refl,
-              stays-lost xs (NextCost k seen v) (add binary32 w (weightIn rs v)) (set seen v true) (more-cost k _ _ g (held v b) (spills v b) (getD seen v false)) (more-sum w _ gw (held v b)) q,
+              stays-lost xs (NextCost k seen v) (add binary32 w (weightIn ws v)) (set seen v true) (more-cost k _ _ g (held v b) (spills v b) (getD seen v false)) (more-sum w _ gw (held v b)) q,
             )
 
         small : Rest → (v : ℕ) (t : Bool) → ltb v 512 ≡ t
             → SameOrLost
             (cond t
-            (cond (canWin l (NextCost k seen v) (add binary32 w (weightIn rs v))) (tryBelow l rs ss xs (NextCost k seen v) (add binary32 w (weightIn rs v)) (set seen v true)) (tried (NextCost k seen v) (add binary32 w (weightIn rs v)) (set seen v true) true))
-            (tryBelow l rs ss xs k w seen))
+            (cond (canWin l (NextCost k seen v) (add binary32 w (weightIn ws v))) (tryBelow l ws ss xs (NextCost k seen v) (add binary32 w (weightIn ws v)) (set seen v true)) (tried (NextCost k seen v) (add binary32 w (weightIn ws v)) (set seen v true) true))
+            (tryBelow l ws ss xs k w seen))
             (cond t
-            (cond (getD seen v false) (tryReports rs ss xs k (add binary32 w (weightIn rs v)) seen) (tryReports rs ss xs (addHolder k (weightIn rs v) (getD ss v zeroWeight)) (add binary32 w (weightIn rs v)) (set seen v true)))
-            (tryReports rs ss xs k w seen))
+            (cond (getD seen v false) (tryReports ws ss xs k (add binary32 w (weightIn ws v)) seen) (tryReports ws ss xs (addHolder k (weightIn ws v) (getD ss v zeroWeight)) (add binary32 w (weightIn ws v)) (set seen v true)))
+            (tryReports ws ss xs k w seen))
         small go v true q =
-            subst (SameOrLost (cond (canWin l (NextCost k seen v) (add binary32 w (weightIn rs v))) (tryBelow l rs ss xs (NextCost k seen v) (add binary32 w (weightIn rs v)) (set seen v true)) (tried (NextCost k seen v) (add binary32 w (weightIn rs v)) (set seen v true) true)))
+            subst (SameOrLost (cond (canWin l (NextCost k seen v) (add binary32 w (weightIn ws v))) (tryBelow l ws ss xs (NextCost k seen v) (add binary32 w (weightIn ws v)) (set seen v true)) (tried (NextCost k seen v) (add binary32 w (weightIn ws v)) (set seen v true) true)))
             (sym (one-holder xs k w seen v (getD seen v false) refl))
-            (next v (ltb-true v 512 q) go (canWin l (NextCost k seen v) (add binary32 w (weightIn rs v))) refl)
+            (next v (ltb-true v 512 q) go (canWin l (NextCost k seen v) (add binary32 w (weightIn ws v))) refl)
         small go v false q = go k w seen g gw
 
         step : (kd : InterferenceKind) → Rest
@@ -234,17 +233,17 @@ module _ (l : Limit) (best-good : GoodSum (l .best .«preference_weight»)) wher
             (onKind kd (tried k w seen true)
             (λ v.
             cond (ltb v 512)
-            (cond (canWin l (NextCost k seen v) (add binary32 w (weightIn rs v))) (tryBelow l rs ss xs (NextCost k seen v) (add binary32 w (weightIn rs v)) (set seen v true)) (tried (NextCost k seen v) (add binary32 w (weightIn rs v)) (set seen v true) true))
-            (tryBelow l rs ss xs k w seen)))
+            (cond (canWin l (NextCost k seen v) (add binary32 w (weightIn ws v))) (tryBelow l ws ss xs (NextCost k seen v) (add binary32 w (weightIn ws v)) (set seen v true)) (tried (NextCost k seen v) (add binary32 w (weightIn ws v)) (set seen v true) true))
+            (tryBelow l ws ss xs k w seen)))
             (onKind kd (tried k w seen true)
             (λ v.
             cond (ltb v 512)
-            (cond (getD seen v false) (tryReports rs ss xs k (add binary32 w (weightIn rs v)) seen) (tryReports rs ss xs (addHolder k (weightIn rs v) (getD ss v zeroWeight)) (add binary32 w (weightIn rs v)) (set seen v true)))
-            (tryReports rs ss xs k w seen)))
+            (cond (getD seen v false) (tryReports ws ss xs k (add binary32 w (weightIn ws v)) seen) (tryReports ws ss xs (addHolder k (weightIn ws v) (getD ss v zeroWeight)) (add binary32 w (weightIn ws v)) (set seen v true)))
+            (tryReports ws ss xs k w seen)))
         step Fixed go = inl refl
         step (VirtReg v) go = small go v (ltb v 512) refl
 
-    pub stopped : (xs : List Interference) → SameOrLost (triedBelow l rs ss xs) (triedOf rs ss xs)
+    pub stopped : (xs : List Interference) → SameOrLost (triedBelow l ws ss xs) (triedOf ws ss xs)
     unfolding triedBelow triedOf
     stopped xs = same-or-lost xs zeroCost zeroWeight (replicate 512 false) (record { sum = zero-sum; spill = plain-zero }) zero-sum
 
@@ -255,16 +254,16 @@ no-win r z (inl e) = rw e refl
 no-win true z (inr e) = refl
 no-win false z (inr e) = e
 
-module _ (rs : List Assignment) (ss : List Float) (held : (v : ℕ) → v < 512 → Plain (weightIn rs v)) (spills : (v : ℕ) → v < 512 → Plain (getD ss v zeroWeight))
+module _ (ws : List Float) (ss : List Float) (held : (v : ℕ) → v < 512 → Plain (weightIn ws v)) (spills : (v : ℕ) → v < 512 → Plain (getD ss v zeroWeight))
     (xs : List Interference) where
   -- by cost
   pub better-same : (flag : Bool) (own : Float) (c : CandidateReg) (b : Best) → GoodSum (b .cost .«preference_weight»)
-      → cond (improves flag own c (triedBelow (byCost flag own c (b .cost)) rs ss xs) (b .cost)) (taking c (triedBelow (byCost flag own c (b .cost)) rs ss xs)) b
-      ≡ cond (improves flag own c (triedOf rs ss xs) (b .cost)) (taking c (triedOf rs ss xs)) b
+      → cond (improves flag own c (triedBelow (byCost flag own c (b .cost)) ws ss xs) (b .cost)) (taking c (triedBelow (byCost flag own c (b .cost)) ws ss xs)) b
+      ≡ cond (improves flag own c (triedOf ws ss xs) (b .cost)) (taking c (triedOf ws ss xs)) b
   better-same flag own c b g =
-      go (triedBelow (byCost flag own c (b .cost)) rs ss xs) (triedOf rs ss xs) (stopped (byCost flag own c (b .cost)) g rs ss held spills xs)
+      go (triedBelow (byCost flag own c (b .cost)) ws ss xs) (triedOf ws ss xs) (stopped (byCost flag own c (b .cost)) g ws ss held spills xs)
     where
-      go : (t′ t : Tried) → SameOrLost (byCost flag own c (b .cost)) g rs ss held spills t′ t
+      go : (t′ t : Tried) → SameOrLost (byCost flag own c (b .cost)) g ws ss held spills t′ t
           → cond (improves flag own c t′ (b .cost)) (taking c t′) b ≡ cond (improves flag own c t (b .cost)) (taking c t) b
       go t′ t (inl e) = rw e refl
       go t′ t (inr (r, e)) =
@@ -273,15 +272,15 @@ module _ (rs : List Assignment) (ss : List Float) (held : (v : ℕ) → v < 512 
 
   -- by weight
   pub preferred-same : (clear c : CandidateReg) (b : Best)
-      → cond (prefers clear c (triedBelow (byWeight c) rs ss xs)) (taking c (triedBelow (byWeight c) rs ss xs)) b
-      ≡ cond (prefers clear c (triedOf rs ss xs)) (taking c (triedOf rs ss xs)) b
+      → cond (prefers clear c (triedBelow (byWeight c) ws ss xs)) (taking c (triedBelow (byWeight c) ws ss xs)) b
+      ≡ cond (prefers clear c (triedOf ws ss xs)) (taking c (triedOf ws ss xs)) b
   preferred-same clear c b =
-      go (triedBelow (byWeight c) rs ss xs) (triedOf rs ss xs) (stopped (byWeight c) zero-sum rs ss held spills xs)
+      go (triedBelow (byWeight c) ws ss xs) (triedOf ws ss xs) (stopped (byWeight c) zero-sum ws ss held spills xs)
     where
       first : Bool
       first = lt (clear .«preference_weight») (c .«preference_weight»)
 
-      go : (t′ t : Tried) → SameOrLost (byWeight c) zero-sum rs ss held spills t′ t
+      go : (t′ t : Tried) → SameOrLost (byWeight c) zero-sum ws ss held spills t′ t
           → cond (prefers clear c t′) (taking c t′) b ≡ cond (prefers clear c t) (taking c t) b
       go t′ t (inl e) = rw e refl
       go t′ t (inr (r, e)) =

@@ -9,7 +9,6 @@ use Rattle.matrix.specs.Walk.{Lent, entered, remaining}
 use Rattle.reg_matrix.specs.declared.Interference.{Interference}
 use Rattle.job.specs.Model.{zeroWeight}
 use Rattle.allocator.specs.declared.CandidateReg.{CandidateReg}
-use Rattle.allocator.specs.declared.Assignment.{Assignment}
 use Rattle.allocator.specs.Order.{candidate}
 use Rattle.allocator.specs.Evict.{cheaper, infinite}
 use Rattle.allocator.specs.declared.EvictCost.{EvictCost}
@@ -58,19 +57,19 @@ abbrev pub byCost : Bool → Float → CandidateReg → EvictCost → Limit
 byCost flag own c best = record { «by_cost» = true; weight = c .«preference_weight»; flag = flag; own = own; best = best }
 
 -- what the check's reports say of a candidate
-unfoldable pub triedOn : Limit → Lent → List ℕ → List Assignment → List Float → CandidateReg → Tried
-triedOn l W maps rs ss c = triedBelow l rs ss (reportsOn W (getD maps (c .reg) 0))
+unfoldable pub triedOn : Limit → Lent → List ℕ → List Float → List Float → CandidateReg → Tried
+triedOn l W maps ws ss c = triedBelow l ws ss (reportsOn W (getD maps (c .reg) 0))
 
 -- a number's flag and spill weight
 abbrev pub improves : Bool → Float → CandidateReg → Tried → EvictCost → Bool
 improves flag own c t best = not (t .«ruled_out») && (mayEvict (c .«preference_weight») flag (t .cost .«spill_weight») own && cheaper (t .cost) best)
 
-unfoldable pub betterIn : Lent → List ℕ → List Assignment → List Float → Bool → Float → Best → CandidateReg → Best
-betterIn W maps rs ss flag own b c =
-    cond (improves flag own c (triedOn (byCost flag own c (b .cost)) W maps rs ss c) (b .cost)) (taking c (triedOn (byCost flag own c (b .cost)) W maps rs ss c)) b
+unfoldable pub betterIn : Lent → List ℕ → List Float → List Float → Bool → Float → Best → CandidateReg → Best
+betterIn W maps ws ss flag own b c =
+    cond (improves flag own c (triedOn (byCost flag own c (b .cost)) W maps ws ss c) (b .cost)) (taking c (triedOn (byCost flag own c (b .cost)) W maps ws ss c)) b
 
-unfoldable pub evictIn : Lent → List ℕ → List Assignment → List Float → Bool → Float → Best → List CandidateReg → Best
-evictIn W maps rs ss flag own b cs = foldl (betterIn W maps rs ss flag own) b cs
+unfoldable pub evictIn : Lent → List ℕ → List Float → List Float → Bool → Float → Best → List CandidateReg → Best
+evictIn W maps ws ss flag own b cs = foldl (betterIn W maps ws ss flag own) b cs
 
 -- ---- the search for a preferred register
 
@@ -82,7 +81,7 @@ byWeight c = record { «by_cost» = false; weight = c .«preference_weight»; fl
 abbrev pub prefers : CandidateReg → CandidateReg → Tried → Bool
 prefers clear c t = lt (clear .«preference_weight») (c .«preference_weight») && (not (t .«ruled_out») && lt (t .«every_report») (c .«preference_weight»))
 
-unfoldable pub preferIn : Lent → List ℕ → List Assignment → List Float → CandidateReg → List CandidateReg → Best
-preferIn W maps rs ss clear [] = noBest
-preferIn W maps rs ss clear (c ∷ cs) =
-    cond (prefers clear c (triedOn (byWeight c) W maps rs ss c)) (taking c (triedOn (byWeight c) W maps rs ss c)) (preferIn W maps rs ss clear cs)
+unfoldable pub preferIn : Lent → List ℕ → List Float → List Float → CandidateReg → List CandidateReg → Best
+preferIn W maps ws ss clear [] = noBest
+preferIn W maps ws ss clear (c ∷ cs) =
+    cond (prefers clear c (triedOn (byWeight c) W maps ws ss c)) (taking c (triedOn (byWeight c) W maps ws ss c)) (preferIn W maps ws ss clear cs)

@@ -15,7 +15,6 @@ use crate::evict::Tried;
 use crate::evict::is_cheaper;
 use crate::evict::may_evict;
 use crate::evict::try_reports;
-use allocator::Assignment;
 use allocator::CandidateReg;
 use allocator::EvictCost;
 use lent::at;
@@ -118,7 +117,7 @@ pub fn find_available_reg(
 
 // What the check of the segments on a register's units says of evicting its holders, as far as the candidate may still win.
 fn try_on(
-    records: [Assignment; 512],
+    held: &[f32],
     spills: &[f32],
     limit: Limit,
     units: u64,
@@ -129,11 +128,11 @@ fn try_on(
     tos: &[u32],
     values: &[u16],
 ) -> Tried
-    ensures { λ r. ⌜ r ≡ triedBelow limit records (now (spills .entry)) (reportsOn (lent (now (ends .entry)) (now (rests .entry)) (now (uses .entry)) (now (froms .entry)) (now (tos .entry)) (now (values .entry))) units) ⌝ }
+    ensures { λ r. ⌜ r ≡ triedBelow limit (now (held .entry)) (now (spills .entry)) (reportsOn (lent (now (ends .entry)) (now (rests .entry)) (now (uses .entry)) (now (froms .entry)) (now (tos .entry)) (now (values .entry))) units) ⌝ }
 {
     let c = enter(ends, froms, units, false);
     try_reports(
-        records,
+        held,
         spills,
         limit,
         c,
@@ -199,7 +198,7 @@ pub fn try_evict(
     weights: &[f32],
     class: &[u8],
     maps: &[u64],
-    records: [Assignment; 512],
+    held: &[f32],
     spills: &[f32],
     flag: bool,
     own: f32,
@@ -210,7 +209,7 @@ pub fn try_evict(
     tos: &[u32],
     values: &[u16],
 ) -> Best
-    ensures { λ r. ⌜ ((hs : List CandidateReg) → Computed order (now (regs .entry)) (now (weights .entry)) hs → length hs + length (now (class .entry)) ≤ 129 → r ≡ evictIn (lent (now (ends .entry)) (now (rests .entry)) (now (uses .entry)) (now (froms .entry)) (now (tos .entry)) (now (values .entry))) (now (maps .entry)) records (now (spills .entry)) flag own noBest (offersFrom hs (now (class .entry)) 0)) ⌝ }
+    ensures { λ r. ⌜ ((hs : List CandidateReg) → Computed order (now (regs .entry)) (now (weights .entry)) hs → length hs + length (now (class .entry)) ≤ 129 → r ≡ evictIn (lent (now (ends .entry)) (now (rests .entry)) (now (uses .entry)) (now (froms .entry)) (now (tos .entry)) (now (values .entry))) (now (maps .entry)) (now (held .entry)) (now (spills .entry)) flag own noBest (offersFrom hs (now (class .entry)) 0)) ⌝ }
 {
     let mut best = none_yet();
     let mut i = 0;
@@ -226,7 +225,7 @@ pub fn try_evict(
                 let units = at(maps, wide(c.reg));
                 let so_far = best.cost;
                 let t = try_on(
-                    records,
+                    held,
                     spills,
                     by_cost(flag, own, c, so_far),
                     units,
@@ -291,7 +290,7 @@ pub fn try_evict_for_preferred_reg(
     regs: &[u8],
     weights: &[f32],
     maps: &[u64],
-    records: [Assignment; 512],
+    held: &[f32],
     spills: &[f32],
     ends: &[u64],
     rests: &[u64],
@@ -300,7 +299,7 @@ pub fn try_evict_for_preferred_reg(
     tos: &[u32],
     values: &[u16],
 ) -> Best
-    ensures { λ r. ⌜ ((hs : List CandidateReg) → Computed order (now (regs .entry)) (now (weights .entry)) hs → length hs ≤ 65 → r ≡ preferIn (lent (now (ends .entry)) (now (rests .entry)) (now (uses .entry)) (now (froms .entry)) (now (tos .entry)) (now (values .entry))) (now (maps .entry)) records (now (spills .entry)) clear hs) ⌝ }
+    ensures { λ r. ⌜ ((hs : List CandidateReg) → Computed order (now (regs .entry)) (now (weights .entry)) hs → length hs ≤ 65 → r ≡ preferIn (lent (now (ends .entry)) (now (rests .entry)) (now (uses .entry)) (now (froms .entry)) (now (tos .entry)) (now (values .entry))) (now (maps .entry)) (now (held .entry)) (now (spills .entry)) clear hs) ⌝ }
 {
     let mut i = 0;
     while i < 65 {
@@ -315,7 +314,7 @@ pub fn try_evict_for_preferred_reg(
         };
         let units = at(maps, wide(c.reg));
         let t = try_on(
-            records,
+            held,
             spills,
             by_weight(c),
             units,

@@ -114,10 +114,11 @@ fn with_holder(cost: EvictCost, seen: bool, held: f32, spill: f32) -> EvictCost
     add_holder(cost, held, spill)
 }
 
-// What a check reports from a position on: each holder once for the cost, and at every report for the sum, in the order of the reports. It ends where
-// the candidate can no longer win, which rules it out; as weights never fall when they are added, the rest would not help it.
+// What a check reports from a position on, where `held` has the weight with which each number holds its register: each holder once for the cost, and
+// at every report for the sum, in the order of the reports. It ends where the candidate can no longer win, which rules it out; as weights never fall
+// when they are added, the rest would not help it.
 pub fn try_reports(
-    records: [Assignment; 512],
+    held: &[f32],
     spills: &[f32],
     limit: Limit,
     start: Cursor,
@@ -128,7 +129,7 @@ pub fn try_reports(
     tos: &[u32],
     values: &[u16],
 ) -> Tried
-    ensures { λ r. ⌜ r ≡ triedBelow limit records (now (spills .entry)) (remaining (lent (now (ends .entry)) (now (rests .entry)) (now (uses .entry)) (now (froms .entry)) (now (tos .entry)) (now (values .entry))) start) ⌝ }
+    ensures { λ r. ⌜ r ≡ triedBelow limit (now (held .entry)) (now (spills .entry)) (remaining (lent (now (ends .entry)) (now (rests .entry)) (now (uses .entry)) (now (froms .entry)) (now (tos .entry)) (now (values .entry))) start) ⌝ }
 {
     let mut cost = EvictCost {
         preference_weight: 0.0,
@@ -158,11 +159,10 @@ pub fn try_reports(
         c = next;
         let i = v as usize;
         if i < 512 {
-            let a = records[i];
-            let held = held_weight(a);
+            let weight = at_float(held, i);
             let seen = holders[i];
-            every_report = every_report + held;
-            cost = with_holder(cost, seen, held, at_float(spills, i));
+            every_report = every_report + weight;
+            cost = with_holder(cost, seen, weight, at_float(spills, i));
             holders[i] = true;
             if !can_win(limit, cost, every_report) {
                 return Tried {

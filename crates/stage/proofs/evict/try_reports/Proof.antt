@@ -11,10 +11,10 @@ use Rattle.stage.proofs.evict.try_reports.Statement.{statement}
 use Rattle.stage.proofs.evict.try_reports.Tie as tie
 
 abbrev Inv-loop : tie.InvT-loop
-Inv-loop spills limit ends rests uses froms tos values records cost₀ every-report₀ holders₀ c₀ cost every-report holders c = (length holders ≡ 512) × (tryBelow limit records spills (remaining (lent ends rests uses froms tos values) c) cost every-report holders ≡ triedBelow limit records spills (remaining (lent ends rests uses froms tos values) c₀))
+Inv-loop held spills limit ends rests uses froms tos values cost₀ every-report₀ holders₀ c₀ cost every-report holders c = (length holders ≡ 512) × (tryBelow limit held spills (remaining (lent ends rests uses froms tos values) c) cost every-report holders ≡ triedBelow limit held spills (remaining (lent ends rests uses froms tos values) c₀))
 
 abbrev μ-loop : tie.MeasureT-loop
-μ-loop spills limit ends rests uses froms tos values records cost₀ every-report₀ holders₀ c₀ cost every-report holders c = length (remaining (lent ends rests uses froms tos values) c)
+μ-loop held spills limit ends rests uses froms tos values cost₀ every-report₀ holders₀ c₀ cost every-report holders c = length (remaining (lent ends rests uses froms tos values) c)
 
 loop-holds : tie.Need-loop-holds Inv-loop μ-loop
 unfolding triedBelow
@@ -44,20 +44,14 @@ returns-2 c = below-fixed _ _ _ _ _ _ _ _ _ (c .before .before .before .before .
 cast-i : tie.Need-cast-i Inv-loop μ-loop
 cast-i c = search needs
 
-mul-a : tie.Need-mul-a Inv-loop μ-loop
-mul-a c = search needs
-
-array-copy-out-a : tie.Need-array-copy-out-a Inv-loop μ-loop
-array-copy-out-a c = search needs
-
-held-weight-requires : tie.Need-held-weight-requires Inv-loop μ-loop
-held-weight-requires c κs = search needs
+at-float-requires : tie.Need-at-float-requires Inv-loop μ-loop
+at-float-requires c κs = search needs
 
 array-read-seen : tie.Need-array-read-seen Inv-loop μ-loop
 array-read-seen c = search needs
 
-at-float-requires : tie.Need-at-float-requires Inv-loop μ-loop
-at-float-requires c κs = search needs
+at-float-requires-2 : tie.Need-at-float-requires-2 Inv-loop μ-loop
+at-float-requires-2 c κs = search needs
 
 with-holder-requires : tie.Need-with-holder-requires Inv-loop μ-loop
 with-holder-requires c κs = search needs
@@ -69,13 +63,13 @@ can-win-requires : tie.Need-can-win-requires Inv-loop μ-loop
 can-win-requires c κs = search needs
 
 returns-3 : tie.Need-returns-3 Inv-loop μ-loop
-returns-3 c = below-stop _ _ _ _ _ _ _ _ _ (c .before .before .before .before .before .before .before .before .before .before .before .before .before .next .ensures .told) _ _ (c .before .before .before .before .before .before .before .before .before .before .before .report .given .1) _ (c .before .before .before .before .before .before .before .before .kind .given .1) (lt-ltb _ _ (c .before .before .before .before .before .before .if1 .taken)) _ _ (c .before .before .with-holder .ensures ∙ rw (c .before .before .before .before .held-weight .ensures, c .before .before .before .at-float .ensures)) (rw (c .before .before .before .before .held-weight .ensures)) (sym (c .before .can-win .ensures) ∙ not-true _ (c .if2 .taken)) ∙ c .before .before .before .before .before .before .before .before .before .before .before .before .before .before .loop .inv .1
+returns-3 c = below-stop _ _ _ _ _ _ _ _ _ (c .before .before .before .before .before .before .before .before .before .before .before .before .next .ensures .told) _ _ (c .before .before .before .before .before .before .before .before .before .before .report .given .1) _ (c .before .before .before .before .before .before .before .kind .given .1) (lt-ltb _ _ (c .before .before .before .before .before .if1 .taken)) _ _ (c .before .before .with-holder .ensures ∙ rw (c .before .before .before .before .at-float .ensures, c .before .before .before .at-float2 .ensures)) (rw (c .before .before .before .before .at-float .ensures)) (sym (c .before .can-win .ensures) ∙ not-true _ (c .if2 .taken)) ∙ c .before .before .before .before .before .before .before .before .before .before .before .before .before .loop .inv .1
 
 loop-less : tie.Need-loop-less Inv-loop μ-loop
-loop-less c = next-less _ _ _ (c .before .before .before .before .before .before .before .before .before .before .before .before .before .next .ensures .told) _ _ (c .before .before .before .before .before .before .before .before .before .before .before .report .given .1)
+loop-less c = next-less _ _ _ (c .before .before .before .before .before .before .before .before .before .before .before .before .next .ensures .told) _ _ (c .before .before .before .before .before .before .before .before .before .before .report .given .1)
 
 loop-again : tie.Need-loop-again Inv-loop μ-loop
-loop-again c = (simp length-set (c .before .before .before .before .before .before .before .before .before .before .before .before .before .before .loop .inv .0), below-more _ _ _ _ _ _ _ _ _ (c .before .before .before .before .before .before .before .before .before .before .before .before .before .next .ensures .told) _ _ (c .before .before .before .before .before .before .before .before .before .before .before .report .given .1) _ (c .before .before .before .before .before .before .before .before .kind .given .1) (lt-ltb _ _ (c .before .before .before .before .before .before .if1 .taken)) _ _ (c .before .before .with-holder .ensures ∙ rw (c .before .before .before .before .held-weight .ensures, c .before .before .before .at-float .ensures)) (rw (c .before .before .before .before .held-weight .ensures)) (sym (c .before .can-win .ensures) ∙ not-false _ (c .if2 .left)) ∙ c .before .before .before .before .before .before .before .before .before .before .before .before .before .before .loop .inv .1)
+loop-again c = (simp length-set (c .before .before .before .before .before .before .before .before .before .before .before .before .before .loop .inv .0), below-more _ _ _ _ _ _ _ _ _ (c .before .before .before .before .before .before .before .before .before .before .before .before .next .ensures .told) _ _ (c .before .before .before .before .before .before .before .before .before .before .report .given .1) _ (c .before .before .before .before .before .before .before .kind .given .1) (lt-ltb _ _ (c .before .before .before .before .before .if1 .taken)) _ _ (c .before .before .with-holder .ensures ∙ rw (c .before .before .before .before .at-float .ensures, c .before .before .before .at-float2 .ensures)) (rw (c .before .before .before .before .at-float .ensures)) (sym (c .before .can-win .ensures) ∙ not-false _ (c .if2 .left)) ∙ c .before .before .before .before .before .before .before .before .before .before .before .before .before .loop .inv .1)
 
 loop-less-2 : tie.Need-loop-less-2 Inv-loop μ-loop
 loop-less-2 c = next-less _ _ _ (c .before .before .before .before .before .before .before .next .ensures .told) _ _ (c .before .before .before .before .before .report .given .1)
@@ -98,11 +92,9 @@ try-reports-spec =
     enum-told-2
     returns-2
     cast-i
-    mul-a
-    array-copy-out-a
-    held-weight-requires
-    array-read-seen
     at-float-requires
+    array-read-seen
+    at-float-requires-2
     with-holder-requires
     array-write-holders
     can-win-requires
