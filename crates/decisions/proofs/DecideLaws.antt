@@ -7,13 +7,12 @@ use mathlib.Core.Option.{Option}
 use mathlib.Core.Bool.{Bool, true, false, not, _&&_, cond}
 use lib.Dec.{eqb}
 use lib.Ieee.{Float, lt, eq}
-use lib.ListN.{length, getD, replicate, length-take, List·getD-eq-default}
+use lib.ListN.{length, getD, replicate, length-take}
 use borrow.Author.Tests.{eq-eqb, ne-eqb}
 use Rattle.matrix.specs.Walk.{Lent, lent}
 use Rattle.job.specs.Model.{VirtReg, zeroWeight}
 use Rattle.job.specs.Layout.{JobBuffers}
 use Rattle.allocator.specs.declared.CandidateReg.{CandidateReg}
-use Rattle.allocator.specs.declared.Assignment.{Assignment}
 use Rattle.allocator.specs.declared.Stage.{Stage}
 use Rattle.allocator.specs.declared.Stage.the-variants.{Evict, Split}
 use Rattle.allocator.specs.Order.{highestPreference}
@@ -23,12 +22,11 @@ use Rattle.order.specs.declared.Last.{Last}
 use Rattle.order.specs.OrderWalk.{hintsOf, hintedOf, zipHints, lastOf, offersFrom}
 use Rattle.order.specs.declared.Last.the-variants.{Reg as LastReg, NoReg}
 use Rattle.stage.specs.AllocateWalk.{availableIn, evictIn, preferIn, noBest}
-use Rattle.stage.specs.EvictWalk.{noRecord}
 use Rattle.stage.specs.declared.allocate.Best.{Best}
 use Rattle.stage.specs.declared.allocate.Available.{Available}
 use Rattle.stage.specs.declared.allocate.Available.the-variants.{Clear, NoneClear, NoCandidates}
 use Rattle.order.proofs.OrderLaws.{hinted-is}
-use Rattle.decisions.specs.Deciding.{shareOf, Decided, Leaves, Takes, Evicts, Splits, Fails, decided, without, flagIn, lastIn, preferredOr, clearIn, evictedOr, noneClearIn, foundIn, inOrder, lentTo, classIn, hintedIn, decidedIn}
+use Rattle.decisions.specs.Deciding.{shareOf, Decided, Leaves, Takes, Evicts, Splits, Fails, decided, without, lastIn, preferredOr, clearIn, evictedOr, noneClearIn, foundIn, inOrder, lentTo, classIn, hintedIn, decidedIn}
 
 -- ---- the register last given to a set, by its word
 
@@ -44,32 +42,28 @@ module _ (last sets : List ℕ) (v t word : ℕ) (a : t ≡ getD sets v 0) (b : 
   unfolding lastIn
   last-some e = subst (λ (w : ℕ). LastReg (word - 1) ≡ cond (eqb w 0) NoReg (LastReg (w - 1))) read-word (rw (ne-eqb word 0 e))
 
--- a place past the records
-pub flag-past : (rs : List Assignment) (v : ℕ) → length rs ≡ 512 → 512 ≤ v → false ≡ flagIn (getD rs v noRecord)
-flag-past rs v l h = let m : length rs ≤ v = omega (arith, l, h) in rw (List·getD-eq-default rs noRecord {n = v} m)
-
 -- ---- a clear candidate
 
-module _ (W : Lent) (maps : List ℕ) (rs : List Assignment) (ss : List Float) (hs : List CandidateReg) (flag : Bool) (c : CandidateReg) where
+module _ (W : Lent) (maps : List ℕ) (ws : List Float) (ss : List Float) (hs : List CandidateReg) (flag : Bool) (c : CandidateReg) where
   -- the flag is on
-  pub clear-flagged : flag ≡ true → decided Takes c false (replicate 512 false) ≡ clearIn W maps rs ss hs flag c
+  pub clear-flagged : flag ≡ true → decided Takes c false (replicate 512 false) ≡ clearIn W maps ws ss hs flag c
   unfolding clearIn
   clear-flagged e = rw e (go (lt (c .«preference_weight») (highestPreference hs)))
     where
-      go : (t : Bool) → decided Takes c false (replicate 512 false) ≡ cond (t && false) (preferredOr c (preferIn W maps rs ss c hs)) (decided Takes c false (replicate 512 false))
+      go : (t : Bool) → decided Takes c false (replicate 512 false) ≡ cond (t && false) (preferredOr c (preferIn W maps ws ss c hs)) (decided Takes c false (replicate 512 false))
       go true = refl
       go false = refl
 
   module _ (h : Float) (p : h ≡ highestPreference hs) where
     -- no hinted candidate is heavier
-    pub clear-heaviest : lt (c .«preference_weight») h ≡ false → decided Takes c false (replicate 512 false) ≡ clearIn W maps rs ss hs flag c
+    pub clear-heaviest : lt (c .«preference_weight») h ≡ false → decided Takes c false (replicate 512 false) ≡ clearIn W maps ws ss hs flag c
     unfolding clearIn
     clear-heaviest l =
         let m : lt (c .«preference_weight») (highestPreference hs) ≡ false = rw (← p) l in
         rw m
 
     -- the search for a preferred one decides
-    pub clear-searched : flag ≡ false → lt (c .«preference_weight») h ≡ true → (b : Best) → b ≡ preferIn W maps rs ss c hs → preferredOr c b ≡ clearIn W maps rs ss hs flag c
+    pub clear-searched : flag ≡ false → lt (c .«preference_weight») h ≡ true → (b : Best) → b ≡ preferIn W maps ws ss c hs → preferredOr c b ≡ clearIn W maps ws ss hs flag c
     unfolding clearIn
     clear-searched e l b q =
         let m : lt (c .«preference_weight») (highestPreference hs) ≡ true = rw (← p) l in
@@ -83,12 +77,12 @@ evicts-none c b e = rw e
 
 -- ---- no candidate is clear
 
-module _ (W : Lent) (maps : List ℕ) (rs : List Assignment) (ss : List Float) (flag : Bool) (own : Float) (cs : List CandidateReg) (q : Stage) where
-  pub none-at-split : q ≡ Split → without Leaves ≡ noneClearIn W maps rs ss flag own cs q
+module _ (W : Lent) (maps : List ℕ) (ws : List Float) (ss : List Float) (flag : Bool) (own : Float) (cs : List CandidateReg) (q : Stage) where
+  pub none-at-split : q ≡ Split → without Leaves ≡ noneClearIn W maps ws ss flag own cs q
   unfolding noneClearIn
   none-at-split e = rw e
 
-  pub none-at-evict : q ≡ Evict → (b : Best) → b ≡ evictIn W maps rs ss flag own noBest cs → evictedOr own b ≡ noneClearIn W maps rs ss flag own cs q
+  pub none-at-evict : q ≡ Evict → (b : Best) → b ≡ evictIn W maps ws ss flag own noBest cs → evictedOr own b ≡ noneClearIn W maps ws ss flag own cs q
   unfolding noneClearIn
   none-at-evict e b p = rw e (ap (evictedOr own) p)
 
@@ -105,24 +99,24 @@ module _ (own : Float) (b : Best) where
 
 -- ---- by what was found of the candidates
 
-module _ (W : Lent) (maps : List ℕ) (rs : List Assignment) (ss : List Float) (hs : List CandidateReg) (flag : Bool) (own : Float) (cs : List CandidateReg) (q : Stage) (a : Available) where
-  pub found-no-candidates : a ≡ NoCandidates → without Leaves ≡ foundIn W maps rs ss hs flag own cs q a
+module _ (W : Lent) (maps : List ℕ) (ws : List Float) (ss : List Float) (hs : List CandidateReg) (flag : Bool) (own : Float) (cs : List CandidateReg) (q : Stage) (a : Available) where
+  pub found-no-candidates : a ≡ NoCandidates → without Leaves ≡ foundIn W maps ws ss hs flag own cs q a
   unfolding foundIn
   found-no-candidates e = rw e
 
-  pub found-clear : (c : CandidateReg) → a ≡ Clear c → clearIn W maps rs ss hs flag c ≡ foundIn W maps rs ss hs flag own cs q a
+  pub found-clear : (c : CandidateReg) → a ≡ Clear c → clearIn W maps ws ss hs flag c ≡ foundIn W maps ws ss hs flag own cs q a
   unfolding foundIn
   found-clear c e = rw e
 
-  pub found-none-clear : a ≡ NoneClear → noneClearIn W maps rs ss flag own cs q ≡ foundIn W maps rs ss hs flag own cs q a
+  pub found-none-clear : a ≡ NoneClear → noneClearIn W maps ws ss flag own cs q ≡ foundIn W maps ws ss hs flag own cs q a
   unfolding foundIn
   found-none-clear e = rw e
 
 pub order-found :
-    (W : Lent) (maps : List ℕ) (rs : List Assignment) (ss : List Float) (hs : List CandidateReg) (class : List ℕ) (flag : Bool) (own : Float) (q : Stage)
-    → (a : Available) → a ≡ availableIn W maps false (offersFrom hs class 0) → foundIn W maps rs ss hs flag own (offersFrom hs class 0) q a ≡ inOrder W maps rs ss hs class flag own q
+    (W : Lent) (maps : List ℕ) (ws : List Float) (ss : List Float) (hs : List CandidateReg) (class : List ℕ) (flag : Bool) (own : Float) (q : Stage)
+    → (a : Available) → a ≡ availableIn W maps false (offersFrom hs class 0) → foundIn W maps ws ss hs flag own (offersFrom hs class 0) q a ≡ inOrder W maps ws ss hs class flag own q
 unfolding inOrder
-order-found W maps rs ss hs class flag own q a p = ap (foundIn W maps rs ss hs flag own (offersFrom hs class 0) q) p
+order-found W maps ws ss hs class flag own q a p = ap (foundIn W maps ws ss hs flag own (offersFrom hs class 0) q) p
 
 -- ---- over the job's buffers
 
@@ -141,21 +135,20 @@ module _ (B : JobBuffers) (v kind : ℕ) (class : List ℕ) (k : kind ≡ getD (
   pub class-fits : length (classIn B v) ≤ 64 → length class ≤ 64
   class-fits h = subst (λ (l : List ℕ). length l ≤ 64) (sym class-read) h
 
-module _ (B : JobBuffers) (ends rests last : List ℕ) (rs : List Assignment) (v : ℕ) (q : Stage) where
+module _ (B : JobBuffers) (ends rests last : List ℕ) (ws : List Float) (flag : Bool) (v : ℕ) (q : Stage) where
   pub decided-by :
-      (W : Lent) (hs : List CandidateReg) (class : List ℕ) (flag : Bool) (own : Float)
+      (W : Lent) (hs : List CandidateReg) (class : List ℕ) (own : Float)
       → W ≡ lentTo B ends rests v
       → hs ≡ hintedIn B last v
       → class ≡ classIn B v
-      → flag ≡ flagIn (getD rs v noRecord)
       → own ≡ getD (B .spillWeights) v zeroWeight
-      → inOrder W (B .regs) rs (B .spillWeights) hs class flag own q ≡ decidedIn B ends rests last rs v q
+      → inOrder W (B .regs) ws (B .spillWeights) hs class flag own q ≡ decidedIn B ends rests last ws flag v q
   unfolding decidedIn
-  decided-by W hs class flag own w h c f o = rw (w, h, c, f, o)
+  decided-by W hs class own w h c o = rw (w, h, c, o)
 
   pub decided-is :
-      (kind : ℕ) (class fs ts vs hr : List ℕ) (hw : List Float) (la : Last) (flag : Bool) (own : Float) (d : Decided)
-      → d ≡ inOrder (lent ends rests (B .fixedUses) fs ts vs) (B .regs) rs (B .spillWeights) (hintedOf (hintsOf hr hw) (lastOf la)) class flag own q
+      (kind : ℕ) (class fs ts vs hr : List ℕ) (hw : List Float) (la : Last) (own : Float) (d : Decided)
+      → d ≡ inOrder (lent ends rests (B .fixedUses) fs ts vs) (B .regs) ws (B .spillWeights) (hintedOf (hintsOf hr hw) (lastOf la)) class flag own q
       → kind ≡ getD (B .classes) v 0
       → class ≡ shareOf (B .classStarts) kind (B .classRegs)
       → fs ≡ shareOf (B .segmentStarts) v (B .froms)
@@ -164,9 +157,8 @@ module _ (B : JobBuffers) (ends rests last : List ℕ) (rs : List Assignment) (v
       → hr ≡ shareOf (B .hintStarts) v (B .hintRegs)
       → hw ≡ shareOf (B .hintStarts) v (B .hintWeights)
       → la ≡ lastIn last (B .valueSets) v
-      → flag ≡ flagIn (getD rs v noRecord)
       → own ≡ getD (B .spillWeights) v zeroWeight
-      → d ≡ decidedIn B ends rests last rs v q
+      → d ≡ decidedIn B ends rests last ws flag v q
   unfolding hintedIn
-  decided-is kind class fs ts vs hr hw la flag own d e k c a b x y z l f o =
-      e ∙ decided-by _ _ class flag own (rw (a, b, x)) (rw (y, z, l)) (class-read B v kind class k c) f o
+  decided-is kind class fs ts vs hr hw la own d e k c a b x y z l o =
+      e ∙ decided-by _ _ class own (rw (a, b, x)) (rw (y, z, l)) (class-read B v kind class k c) o

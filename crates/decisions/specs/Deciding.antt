@@ -22,7 +22,6 @@ use Rattle.order.specs.OrderWalk.{hintsOf, hintedOf, offersFrom, lastOf}
 use Rattle.order.specs.declared.Last.{Last}
 use Rattle.order.specs.declared.Last.the-variants.{Reg as LastReg, NoReg}
 use Rattle.stage.specs.AllocateWalk.{availableIn, evictIn, preferIn, noBest}
-use Rattle.stage.specs.EvictWalk.{noRecord}
 use Rattle.stage.specs.declared.allocate.Best.{Best}
 use Rattle.stage.specs.declared.allocate.Available.{Available}
 use Rattle.stage.specs.declared.allocate.Available.the-variants.{Clear, NoneClear, NoCandidates}
@@ -88,29 +87,29 @@ abbrev pub preferredOr : CandidateReg → Best → Decided
 preferredOr c b = cond (b .found) (decided Evicts (b .to) true (b .holders)) (decided Takes c false (replicate 512 false))
 
 -- the clear candidate c, unless another is preferred
-unfoldable pub clearIn : Lent → List ℕ → List Assignment → List Float → List CandidateReg → Bool → CandidateReg → Decided
-clearIn W maps rs ss hs flag c =
-    cond (lt (c .«preference_weight») (highestPreference hs) && not flag) (preferredOr c (preferIn W maps rs ss c hs)) (decided Takes c false (replicate 512 false))
+unfoldable pub clearIn : Lent → List ℕ → List Float → List Float → List CandidateReg → Bool → CandidateReg → Decided
+clearIn W maps ws ss hs flag c =
+    cond (lt (c .«preference_weight») (highestPreference hs) && not flag) (preferredOr c (preferIn W maps ws ss c hs)) (decided Takes c false (replicate 512 false))
 
 abbrev pub evictedOr : Float → Best → Decided
 evictedOr own b = cond (b .found) (decided Evicts (b .to) (not (lt (b .cost .«spill_weight») own)) (b .holders)) (cond (eq own infinite) (without Fails) (without Splits))
 
-unfoldable pub noneClearIn : Lent → List ℕ → List Assignment → List Float → Bool → Float → List CandidateReg → Stage → Decided
-noneClearIn W maps rs ss flag own cs Evict = evictedOr own (evictIn W maps rs ss flag own noBest cs)
-noneClearIn W maps rs ss flag own cs Split = without Leaves
+unfoldable pub noneClearIn : Lent → List ℕ → List Float → List Float → Bool → Float → List CandidateReg → Stage → Decided
+noneClearIn W maps ws ss flag own cs Evict = evictedOr own (evictIn W maps ws ss flag own noBest cs)
+noneClearIn W maps ws ss flag own cs Split = without Leaves
 
 -- by what was found of the candidates
-unfoldable pub foundIn : Lent → List ℕ → List Assignment → List Float → List CandidateReg → Bool → Float → List CandidateReg → Stage → Available → Decided
-foundIn W maps rs ss hs flag own cs q NoCandidates = without Leaves
-foundIn W maps rs ss hs flag own cs q (Clear c) = clearIn W maps rs ss hs flag c
-foundIn W maps rs ss hs flag own cs q NoneClear = noneClearIn W maps rs ss flag own cs q
+unfoldable pub foundIn : Lent → List ℕ → List Float → List Float → List CandidateReg → Bool → Float → List CandidateReg → Stage → Available → Decided
+foundIn W maps ws ss hs flag own cs q NoCandidates = without Leaves
+foundIn W maps ws ss hs flag own cs q (Clear c) = clearIn W maps ws ss hs flag c
+foundIn W maps ws ss hs flag own cs q NoneClear = noneClearIn W maps ws ss flag own cs q
 
 -- the hinted candidates hs, then the class
-unfoldable pub inOrder : Lent → List ℕ → List Assignment → List Float → List CandidateReg → List ℕ → Bool → Float → Stage → Decided
-inOrder W maps rs ss hs class flag own q =
-    foundIn W maps rs ss hs flag own (offersFrom hs class 0) q (availableIn W maps false (offersFrom hs class 0))
+unfoldable pub inOrder : Lent → List ℕ → List Float → List Float → List CandidateReg → List ℕ → Bool → Float → Stage → Decided
+inOrder W maps ws ss hs class flag own q =
+    foundIn W maps ws ss hs flag own (offersFrom hs class 0) q (availableIn W maps false (offersFrom hs class 0))
 
--- ---- over the job's buffers B, the table's, and the last registers
+-- ---- over the job's buffers B, the table's, the last registers and the weights held
 
 abbrev pub lentTo : JobBuffers → List ℕ → List ℕ → ℕ → Lent
 lentTo B ends rests v =
@@ -123,9 +122,9 @@ unfoldable pub hintedIn : JobBuffers → List ℕ → ℕ → List CandidateReg
 hintedIn B last v =
     hintedOf (hintsOf (shareOf (B .hintStarts) v (B .hintRegs)) (shareOf (B .hintStarts) v (B .hintWeights))) (lastOf (lastIn last (B .valueSets) v))
 
-unfoldable pub decidedIn : JobBuffers → List ℕ → List ℕ → List ℕ → List Assignment → ℕ → Stage → Decided
-decidedIn B ends rests last rs v q =
-    inOrder (lentTo B ends rests v) (B .regs) rs (B .spillWeights) (hintedIn B last v) (classIn B v) (flagIn (getD rs v noRecord)) (getD (B .spillWeights) v zeroWeight) q
+unfoldable pub decidedIn : JobBuffers → List ℕ → List ℕ → List ℕ → List Float → Bool → ℕ → Stage → Decided
+decidedIn B ends rests last ws flag v q =
+    inOrder (lentTo B ends rests v) (B .regs) ws (B .spillWeights) (hintedIn B last v) (classIn B v) flag (getD (B .spillWeights) v zeroWeight) q
 
 -- the job's buffers that a decision reads; it asks for no size
 abbrev pub reading : List ℕ → List ℕ → List ℕ → List ℕ → List ℕ → List ℕ → List Float → List ℕ → List ℕ → List Float → List ℕ → List ℕ → List ℕ → List ℕ → JobBuffers

@@ -2,13 +2,12 @@
 ghost use mathlib.Core.Path.{_≡_};
 ghost use mathlib.Core.List.{List};
 ghost use Prim.Native.Nat.{_+_, _≤_};
-ghost use lib.ListN.{length, getD};
+ghost use lib.ListN.{length};
 ghost use lib.Ieee.{eq};
 ghost use Rattle.matrix.specs.Walk.{lent};
 ghost use Rattle.allocator.specs.declared.CandidateReg.{CandidateReg};
 ghost use Rattle.allocator.specs.Evict.{infinite};
 ghost use Rattle.order.specs.OrderWalk.{Computed, offersFrom};
-ghost use Rattle.stage.specs.EvictWalk.{noRecord};
 ghost use Rattle.decisions.specs.Deciding.{without, flagIn, lastIn, clearIn, noneClearIn, foundIn, inOrder, classIn, decidedIn, reading};
 use crate::parts::of_float;
 use crate::parts::of8;
@@ -107,7 +106,7 @@ fn with_clear(
     regs: &[u8],
     weights: &[f32],
     maps: &[u64],
-    records: [Assignment; 512],
+    held: &[f32],
     spills: &[f32],
     ends: &[u64],
     rests: &[u64],
@@ -116,7 +115,7 @@ fn with_clear(
     tos: &[u32],
     values: &[u16],
 ) -> Decided
-    ensures { λ r. ⌜ ((hs : List CandidateReg) → Computed order (now (regs .entry)) (now (weights .entry)) hs → length hs ≤ 65 → r ≡ clearIn (lent (now (ends .entry)) (now (rests .entry)) (now (uses .entry)) (now (froms .entry)) (now (tos .entry)) (now (values .entry))) (now (maps .entry)) records (now (spills .entry)) hs flag c) ⌝ }
+    ensures { λ r. ⌜ ((hs : List CandidateReg) → Computed order (now (regs .entry)) (now (weights .entry)) hs → length hs ≤ 65 → r ≡ clearIn (lent (now (ends .entry)) (now (rests .entry)) (now (uses .entry)) (now (froms .entry)) (now (tos .entry)) (now (values .entry))) (now (maps .entry)) (now (held .entry)) (now (spills .entry)) hs flag c) ⌝ }
 {
     let taken = Decided {
         fate: Fate::Takes,
@@ -134,7 +133,7 @@ fn with_clear(
             regs,
             weights,
             maps,
-            records,
+            held,
             spills,
             ends,
             rests,
@@ -168,7 +167,7 @@ fn with_none_clear(
     weights: &[f32],
     class: &[u8],
     maps: &[u64],
-    records: [Assignment; 512],
+    held: &[f32],
     spills: &[f32],
     ends: &[u64],
     rests: &[u64],
@@ -177,7 +176,7 @@ fn with_none_clear(
     tos: &[u32],
     values: &[u16],
 ) -> Decided
-    ensures { λ r. ⌜ ((hs : List CandidateReg) → Computed order (now (regs .entry)) (now (weights .entry)) hs → length hs + length (now (class .entry)) ≤ 129 → r ≡ noneClearIn (lent (now (ends .entry)) (now (rests .entry)) (now (uses .entry)) (now (froms .entry)) (now (tos .entry)) (now (values .entry))) (now (maps .entry)) records (now (spills .entry)) flag own (offersFrom hs (now (class .entry)) 0) stage) ⌝ }
+    ensures { λ r. ⌜ ((hs : List CandidateReg) → Computed order (now (regs .entry)) (now (weights .entry)) hs → length hs + length (now (class .entry)) ≤ 129 → r ≡ noneClearIn (lent (now (ends .entry)) (now (rests .entry)) (now (uses .entry)) (now (froms .entry)) (now (tos .entry)) (now (values .entry))) (now (maps .entry)) (now (held .entry)) (now (spills .entry)) flag own (offersFrom hs (now (class .entry)) 0) stage) ⌝ }
 {
     let Stage::Evict = stage else {
         return without_reg(Fate::Leaves);
@@ -188,7 +187,7 @@ fn with_none_clear(
         weights,
         class,
         maps,
-        records,
+        held,
         spills,
         flag,
         own,
@@ -227,7 +226,7 @@ fn by_found(
     weights: &[f32],
     class: &[u8],
     maps: &[u64],
-    records: [Assignment; 512],
+    held: &[f32],
     spills: &[f32],
     ends: &[u64],
     rests: &[u64],
@@ -236,7 +235,7 @@ fn by_found(
     tos: &[u32],
     values: &[u16],
 ) -> Decided
-    ensures { λ r. ⌜ ((hs : List CandidateReg) → Computed order (now (regs .entry)) (now (weights .entry)) hs → length hs ≤ 65 → length (now (class .entry)) ≤ 64 → r ≡ foundIn (lent (now (ends .entry)) (now (rests .entry)) (now (uses .entry)) (now (froms .entry)) (now (tos .entry)) (now (values .entry))) (now (maps .entry)) records (now (spills .entry)) hs flag own (offersFrom hs (now (class .entry)) 0) stage found) ⌝ }
+    ensures { λ r. ⌜ ((hs : List CandidateReg) → Computed order (now (regs .entry)) (now (weights .entry)) hs → length hs ≤ 65 → length (now (class .entry)) ≤ 64 → r ≡ foundIn (lent (now (ends .entry)) (now (rests .entry)) (now (uses .entry)) (now (froms .entry)) (now (tos .entry)) (now (values .entry))) (now (maps .entry)) (now (held .entry)) (now (spills .entry)) hs flag own (offersFrom hs (now (class .entry)) 0) stage found) ⌝ }
 {
     match found {
         Available::NoCandidates => without_reg(Fate::Leaves),
@@ -247,7 +246,7 @@ fn by_found(
             regs,
             weights,
             maps,
-            records,
+            held,
             spills,
             ends,
             rests,
@@ -265,7 +264,7 @@ fn by_found(
             weights,
             class,
             maps,
-            records,
+            held,
             spills,
             ends,
             rests,
@@ -287,7 +286,7 @@ fn in_order(
     weights: &[f32],
     class: &[u8],
     maps: &[u64],
-    records: [Assignment; 512],
+    held: &[f32],
     spills: &[f32],
     ends: &[u64],
     rests: &[u64],
@@ -296,7 +295,7 @@ fn in_order(
     tos: &[u32],
     values: &[u16],
 ) -> Decided
-    ensures { λ r. ⌜ ((hs : List CandidateReg) → Computed order (now (regs .entry)) (now (weights .entry)) hs → length hs ≤ 65 → length (now (class .entry)) ≤ 64 → r ≡ inOrder (lent (now (ends .entry)) (now (rests .entry)) (now (uses .entry)) (now (froms .entry)) (now (tos .entry)) (now (values .entry))) (now (maps .entry)) records (now (spills .entry)) hs (now (class .entry)) flag own stage) ⌝ }
+    ensures { λ r. ⌜ ((hs : List CandidateReg) → Computed order (now (regs .entry)) (now (weights .entry)) hs → length hs ≤ 65 → length (now (class .entry)) ≤ 64 → r ≡ inOrder (lent (now (ends .entry)) (now (rests .entry)) (now (uses .entry)) (now (froms .entry)) (now (tos .entry)) (now (values .entry))) (now (maps .entry)) (now (held .entry)) (now (spills .entry)) hs (now (class .entry)) flag own stage) ⌝ }
 {
     let found = find_available_reg(
         order,
@@ -321,7 +320,7 @@ fn in_order(
         weights,
         class,
         maps,
-        records,
+        held,
         spills,
         ends,
         rests,
@@ -332,21 +331,10 @@ fn in_order(
     )
 }
 
-// The flag of v. A number above 511 has none.
-fn flag_at(records: [Assignment; 512], v: u16) -> bool
-    ensures { λ r. ⌜ r ≡ flagIn (getD records v noRecord) ⌝ }
-{
-    let i = v as usize;
-    if 512 <= i {
-        return false;
-    }
-    let a = records[i];
-    flag_of(a)
-}
-
-// What the dequeue of v from a stage decides.
+// What the dequeue of v from a stage decides, where `held` has the weight with which each number holds its register, and `flag` is v's.
 pub fn decide(
-    records: [Assignment; 512],
+    held: &[f32],
+    flag: bool,
     v: u16,
     stage: Stage,
     maps: &[u64],
@@ -367,7 +355,7 @@ pub fn decide(
     rests: &[u64],
     last: &[u8],
 ) -> Decided
-    ensures { λ r. ⌜ (length (classIn (reading (now (maps .entry)) (now («class_starts» .entry)) (now («class_regs» .entry)) (now (uses .entry)) (now (classes .entry)) (now (sets .entry)) (now (spills .entry)) (now («hint_starts» .entry)) (now («hint_regs» .entry)) (now («hint_weights» .entry)) (now («segment_starts» .entry)) (now (froms .entry)) (now (tos .entry)) (now (values .entry))) v) ≤ 64 → r ≡ decidedIn (reading (now (maps .entry)) (now («class_starts» .entry)) (now («class_regs» .entry)) (now (uses .entry)) (now (classes .entry)) (now (sets .entry)) (now (spills .entry)) (now («hint_starts» .entry)) (now («hint_regs» .entry)) (now («hint_weights» .entry)) (now («segment_starts» .entry)) (now (froms .entry)) (now (tos .entry)) (now (values .entry))) (now (ends .entry)) (now (rests .entry)) (now (last .entry)) records v stage) ⌝ }
+    ensures { λ r. ⌜ (length (classIn (reading (now (maps .entry)) (now («class_starts» .entry)) (now («class_regs» .entry)) (now (uses .entry)) (now (classes .entry)) (now (sets .entry)) (now (spills .entry)) (now («hint_starts» .entry)) (now («hint_regs» .entry)) (now («hint_weights» .entry)) (now («segment_starts» .entry)) (now (froms .entry)) (now (tos .entry)) (now (values .entry))) v) ≤ 64 → r ≡ decidedIn (reading (now (maps .entry)) (now («class_starts» .entry)) (now («class_regs» .entry)) (now (uses .entry)) (now (classes .entry)) (now (sets .entry)) (now (spills .entry)) (now («hint_starts» .entry)) (now («hint_regs» .entry)) (now («hint_weights» .entry)) (now («segment_starts» .entry)) (now (froms .entry)) (now (tos .entry)) (now (values .entry))) (now (ends .entry)) (now (rests .entry)) (now (last .entry)) (now (held .entry)) flag v stage) ⌝ }
 {
     let mut regs = [0u8; 65];
     let mut weights = [0.0; 65];
@@ -381,14 +369,14 @@ pub fn decide(
     let kind = at8(classes, v as usize);
     in_order(
         stage,
-        flag_at(records, v),
+        flag,
         at_float(spills, v as usize),
         order,
         &regs,
         &weights,
         of8(class_starts, kind as u16, class_regs),
         maps,
-        records,
+        held,
         spills,
         ends,
         rests,

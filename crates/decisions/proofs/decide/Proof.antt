@@ -25,9 +25,6 @@ compute-requires c κs = search needs
 at8-requires : tie.Need-at8-requires
 at8-requires c κs = search needs
 
-flag-at-requires : tie.Need-flag-at-requires
-flag-at-requires c κs = search needs
-
 at-float-requires : tie.Need-at-float-requires
 at-float-requires c κs = search needs
 
@@ -59,16 +56,15 @@ returns : tie.Need-returns
 returns c =
     λ n.
     decided-is _ _ _ _ _ _ _ _ _ _ _ _ _ _ _ _ _ _
-    (c .in-order .ensures _ (c .before .before .before .before .before .before .before .before .before .before .before .before .compute .ensures (omega arith) (omega arith)) (hinted-few _ _ _) (class-fits _ _ _ _ (c .before .before .before .before .before .before .before .before .before .at8 .ensures) (c .before .before .before .before .of82 .ensures) n))
-    (c .before .before .before .before .before .before .before .before .before .at8 .ensures)
+    (c .in-order .ensures _ (c .before .before .before .before .before .before .before .before .before .before .before .compute .ensures (omega arith) (omega arith)) (hinted-few _ _ _) (class-fits _ _ _ _ (c .before .before .before .before .before .before .before .before .at8 .ensures) (c .before .before .before .before .of82 .ensures) n))
+    (c .before .before .before .before .before .before .before .before .at8 .ensures)
     (c .before .before .before .before .of82 .ensures)
     (c .before .before .before .of32 .ensures)
     (c .before .before .of322 .ensures)
     (c .before .of16 .ensures)
-    (c .before .before .before .before .before .before .before .before .before .before .before .before .before .before .before .before .before .of8 .ensures)
-    (c .before .before .before .before .before .before .before .before .before .before .before .before .before .before .before .before .of-float .ensures)
-    (c .before .before .before .before .before .before .before .before .before .before .before .before .before .before .before .last-given .ensures)
-    (c .before .before .before .before .before .before .before .before .flag-at .ensures)
+    (c .before .before .before .before .before .before .before .before .before .before .before .before .before .before .before .before .of8 .ensures)
+    (c .before .before .before .before .before .before .before .before .before .before .before .before .before .before .before .of-float .ensures)
+    (c .before .before .before .before .before .before .before .before .before .before .before .before .before .before .last-given .ensures)
     (c .before .before .before .before .before .before .before .at-float .ensures)
 
 pub decide-spec : {M : Type 1} → statement M
@@ -82,7 +78,6 @@ decide-spec =
     slice-aggregate-compute-2
     compute-requires
     at8-requires
-    flag-at-requires
     at-float-requires
     slice-aggregate-in-order
     slice-aggregate-in-order-2
