@@ -25,9 +25,11 @@ use Rattle.allocator.specs.Reached.{Reached}
 use Rattle.allocator.proofs.Runs.{evictAll-keeps}
 use Rattle.allocator.proofs.Good.{Good, Idle, Taking, good-reached, queued-idle, takes-good, reached-evict-all}
 use Rattle.allocator.proofs.Records.{give-records, leave-records, requeue-records, leave-last, requeue-last}
-use Rattle.stage.specs.EvictWalk.{noRecord}
+use Rattle.stage.proofs.ReachedSearch.{record-read}
 use Rattle.queue.specs.QueueWalk.{keyOf, setWord}
 use Rattle.context.specs.Standing.{Moves, Stands}
+use Rattle.context.specs.Slices.{RecordBuffers, recordBuffers, recordAt, setRecord}
+use Rattle.context.proofs.SliceLaws.{free, at-back, set-back}
 use Rattle.decisions.specs.declared.Fate.{Fate}
 use Rattle.decisions.specs.declared.Fate.the-variants.{Leaves, Takes, Evicts, Splits, Fails}
 use Rattle.decisions.specs.declared.Decided.{Decided}
@@ -47,9 +49,10 @@ idle-unassigned j s v i = go (heldBy s v) (isLeftOver s v) (i .holds-nothing) (i
     go o b p t = rw p t
 
 -- the flag of a record
-flag-read : (j : Job) (s : State) (g : Good j s) (v : ℕ) → IsNumber j v → T (not (isLeftOver s v)) → flagIn (getD (records s) v noRecord) ≡ flag s v
-unfolding records recordOf
-flag-read j s g v known t = ap flagIn (from-zero (recordOf s) noRecord 512 v (omega (arith, known, g .premises .few-numbers))) ∙ go (isLeftOver s v) t (heldBy s v)
+flag-read : (j : Job) (s : State) (g : Good j s) (v : ℕ) → IsNumber j v → T (not (isLeftOver s v)) → flagIn (recordAt (recordBuffers (records s)) v) ≡ flag s v
+unfolding recordOf
+flag-read j s g v known t =
+    ap flagIn (at-back (records s) v ∙ record-read s free v (omega (arith, known, g .premises .few-numbers))) ∙ go (isLeftOver s v) t (heldBy s v)
   where
     go : (b : Bool) → T (not b) → (o : Option CandidateReg) → flagIn (assignment b (flag s v) o) ≡ flag s v
     go true t o = absurd t
@@ -67,41 +70,42 @@ took j s v c f vs = refl
 
 -- ---- a register is taken and recorded
 
-module _ (d : Decided) (v : ℕ) (rs : List Assignment) (maps uses sets starts froms tos ends rests queue last : List ℕ) where
-  -- a number above 511 is none of the job's
-  pub settled-nobody : 512 ≤ v → Settled d v rs maps uses sets starts froms tos ends rests queue last rs ends rests queue last
-  settled-nobody h = record { reached = λ j s t reach k st is known free names clear. absurd (omega (arith, h, known, good-reached j s reach .premises .few-numbers)) }
-
+module _ (d : Decided) (v : ℕ) (rs : RecordBuffers) (maps uses sets starts froms tos ends rests queue last : List ℕ) where
   pub settled :
       (ends′ rests′ queue′ last′ : List ℕ)
       → Taken v (d .to .reg) maps uses sets starts froms tos ends rests queue last ends′ rests′ queue′ last′
+      → (b : Assignment)
+      → b ≡ recordAt rs v
       → (a : Assignment)
-      → a ≡ givenRecord (d .flag) (getD rs v noRecord) (d .to)
-      → Settled d v rs maps uses sets starts froms tos ends rests queue last (set rs v a) ends′ rests′ queue′ last′
-  settled ends′ rests′ queue′ last′ tk a pr =
+      → a ≡ givenRecord (d .flag) b (d .to)
+      → (rs′ : RecordBuffers)
+      → rs′ ≡ setRecord rs v a
+      → Settled d v rs maps uses sets starts froms tos ends rests queue last rs′ ends′ rests′ queue′ last′
+  settled ends′ rests′ queue′ last′ tk b pb a pr rs′ st′ =
       record {
         reached =
             λ j s t reach k st is known free names clear.
             let g = good-reached j s reach in
             let stays = both (not (isSome (heldBy s v))) (not (isLeftOver s v)) free .1 in (
               tk .reached j s t reach k st known free names clear (d .to) (d .flag) refl,
-              ap (set rs v) pr ∙ ap (λ (l : List Assignment). set l v (givenRecord (d .flag) (getD l v noRecord) (d .to))) is
-                  ∙ ap (λ (b : Bool). set (records s) v (Holds (d .flag || b) (d .to .reg) (d .to .«preference_weight»))) (flag-read j s g v known stays)
-                  ∙ sym (give-records j s g v known (d .to) (d .flag) stays),
+              st′ ∙ ap (setRecord rs v) (pr ∙ ap (λ (x : Assignment). givenRecord (d .flag) x (d .to)) pb) ∙ ap (λ (l : RecordBuffers). setRecord l v (givenRecord (d .flag) (recordAt l v) (d .to))) is
+                  ∙ ap (λ (b : Bool). setRecord (recordBuffers (records s)) v (Holds (d .flag || b) (d .to .reg) (d .to .«preference_weight»))) (flag-read j s g v known stays)
+                  ∙ set-back (records s) v (Holds (d .flag || flag s v) (d .to .reg) (d .to .«preference_weight»))
+                  ∙ sym (ap recordBuffers (give-records j s g v known (d .to) (d .flag) stays)),
             );
       }
 
 -- ---- a decision
 
-module _ (d : Decided) (v : ℕ) (rs : List Assignment) (maps uses sets sizes hints starts froms tos ends rests queue last : List ℕ) where
-  abbrev Out : List Assignment → List ℕ → List ℕ → List ℕ → List ℕ → Type 0
+module _ (d : Decided) (v : ℕ) (rs : RecordBuffers) (maps uses sets sizes hints starts froms tos ends rests queue last : List ℕ) where
+  abbrev Out : RecordBuffers → List ℕ → List ℕ → List ℕ → List ℕ → Type 0
   Out rs′ ends′ rests′ queue′ last′ = CarriedOut d v rs maps uses sets sizes hints starts froms tos ends rests queue last rs′ ends′ rests′ queue′ last′
 
   -- what stands in the place of a step
-  outcome : (rs′ : List Assignment) (ends′ rests′ queue′ last′ : List ℕ)
+  outcome : (rs′ : RecordBuffers) (ends′ rests′ queue′ last′ : List ℕ)
       → ((j : Job) (s : State) (t : StateBuffers) (q : Stage) → Reached j s → Good j s → Idle j s v → EvictReads j maps uses sizes hints starts tos → TakeReads j maps uses sets starts froms tos
       → Stands j s t ends rests queue last → decisionOf d ≡ decide j s v q
-      → (x : State) × (stateOf (dequeue j s v q) ≡ x) × Stands j x t ends′ rests′ queue′ last′ × (rs ≡ records s → rs′ ≡ records x))
+      → (x : State) × (stateOf (dequeue j s v q) ≡ x) × Stands j x t ends′ rests′ queue′ last′ × (rs ≡ recordBuffers (records s) → rs′ ≡ recordBuffers (records x)))
       → Out rs′ ends′ rests′ queue′ last′
   outcome rs′ ends′ rests′ queue′ last′ f =
       record {
@@ -109,15 +113,11 @@ module _ (d : Decided) (v : ℕ) (rs : List Assignment) (maps uses sets sizes hi
             λ j s t q reach e k st is queued dec.
             let g = good-reached j s reach in
             let o = f j s t q reach g (queued-idle j s g v q queued) e k st dec in
-            (subst (λ (x : State). Stands j x t ends′ rests′ queue′ last′) (sym (o .1)) (o .2), o .3 is ∙ ap records (sym (o .1)));
+            (subst (λ (x : State). Stands j x t ends′ rests′ queue′ last′) (sym (o .1)) (o .2), o .3 is ∙ ap (λ (x : State). recordBuffers (records x)) (sym (o .1)));
       }
 
-  -- a number above 511 is not queued
-  pub carried-nobody : 512 ≤ v → Out rs ends rests queue last
-  carried-nobody h = outcome rs ends rests queue last (λ j s t q reach g i e k st dec. absurd (omega (arith, h, i .known, g .premises .few-numbers)))
-
   -- left over
-  pub carried-leaves : d .fate ≡ Leaves → (queue′ : List ℕ) → queue′ ≡ setWord v 0 queue → (rs′ : List Assignment) → rs′ ≡ set rs v Dead → Out rs′ ends rests queue′ last
+  pub carried-leaves : d .fate ≡ Leaves → (queue′ : List ℕ) → queue′ ≡ setWord v 0 queue → (rs′ : RecordBuffers) → rs′ ≡ setRecord rs v Dead → Out rs′ ends rests queue′ last
   unfolding leave carryOut
   carried-leaves x queue′ pq rs′ pr =
       outcome rs′ ends rests queue′ last
@@ -132,7 +132,7 @@ module _ (d : Decided) (v : ℕ) (rs : List Assignment) (maps uses sets sizes hi
               };
           last-is = st .last-is ∙ ap (λ (l : List ℕ). l ++ t .last) (sym (leave-last j s g v (i .known)));
         },
-        λ is. pr ∙ ap (λ (l : List Assignment). set l v Dead) is ∙ sym (leave-records j s g v (i .known)),
+        λ is. pr ∙ ap (λ (l : RecordBuffers). setRecord l v Dead) is ∙ set-back (records s) v Dead ∙ sym (ap recordBuffers (leave-records j s g v (i .known))),
       ))
 
   -- queued otherwise: the table, the last registers and the records stay
@@ -163,7 +163,7 @@ module _ (d : Decided) (v : ℕ) (rs : List Assignment) (maps uses sets sizes hi
         requeue v (some Split) s,
         by-fate d Splits splits x refl j s v q dec,
         requeued j s t g i (some Split) queue′ word st,
-        λ is. is ∙ sym (requeue-records j s g v (i .known) (some Split)),
+        λ is. is ∙ sym (ap recordBuffers (requeue-records j s g v (i .known) (some Split))),
       ))
 
   -- off the queue, and the run ends
@@ -175,13 +175,13 @@ module _ (d : Decided) (v : ℕ) (rs : List Assignment) (maps uses sets sizes hi
         requeue v none s,
         by-fate d Fails fails x refl j s v q dec,
         requeued j s t g i none queue′ (pq ∙ unqueued j s g (requeue v none s) v (i .known) (t .queue) queue (st .moves .queue-is) refl) st,
-        λ is. is ∙ sym (requeue-records j s g v (i .known) none),
+        λ is. is ∙ sym (ap recordBuffers (requeue-records j s g v (i .known) none)),
       ))
 
   -- a clear register is taken
   pub carried-takes :
       d .fate ≡ Takes
-      → (rs′ : List Assignment) (ends′ rests′ queue′ last′ : List ℕ)
+      → (rs′ : RecordBuffers) (ends′ rests′ queue′ last′ : List ℕ)
       → Settled d v rs maps uses sets starts froms tos ends rests queue last rs′ ends′ rests′ queue′ last′
       → Out rs′ ends′ rests′ queue′ last′
   unfolding evictAll foldl
@@ -194,15 +194,15 @@ module _ (d : Decided) (v : ℕ) (rs : List Assignment) (maps uses sets sizes hi
             let a = takes-good j s g v i q (d .to) (d .flag) [] (sym dec ∙ ap (λ (z : Fate). decisionBy z d) x) in
             let o = se .reached j s t reach k st is (i .known) (idle-unassigned j s v i) (a .candidate .names) (a .clear) in
             let step = by-fate d Takes (takes (d .to) (d .flag) []) x refl j s v q dec ∙ took j s v (d .to) (d .flag) [] in
-            (subst (λ (z : State). Stands j z t ends′ rests′ queue′ last′) (sym step) (o .0), o .1 ∙ ap records (sym step));
+            (subst (λ (z : State). Stands j z t ends′ rests′ queue′ last′) (sym step) (o .0), o .1 ∙ ap (λ (x : State). recordBuffers (records x)) (sym step));
       }
 
   -- a register is taken from its holders
   pub carried-evicts :
       d .fate ≡ Evicts
-      → (rs₁ : List Assignment) (ends₁ rests₁ queue₁ : List ℕ)
+      → (rs₁ : RecordBuffers) (ends₁ rests₁ queue₁ : List ℕ)
       → EvictedAll (d .evicted) rs maps uses sizes hints starts tos ends rests queue rs₁ ends₁ rests₁ queue₁
-      → (rs′ : List Assignment) (ends′ rests′ queue′ last′ : List ℕ)
+      → (rs′ : RecordBuffers) (ends′ rests′ queue′ last′ : List ℕ)
       → Settled d v rs₁ maps uses sets starts froms tos ends₁ rests₁ queue₁ last rs′ ends′ rests′ queue′ last′
       → Out rs′ ends′ rests′ queue′ last′
   carried-evicts x rs₁ ends₁ rests₁ queue₁ ea rs′ ends′ rests′ queue′ last′ se =
@@ -218,5 +218,5 @@ module _ (d : Decided) (v : ℕ) (rs : List Assignment) (maps uses sets sizes hi
             let lasts : last ≡ lastWords y ++ t .last = st .last-is ∙ ap (λ (l : List ℕ). l ++ t .last) (sym (evictAll-keeps lastWords j (λ v r s. same-last j v r s) vs s)) in
             let o = se .reached j y t (reached-evict-all j vs s reach) k (record { moves = m .0; last-is = lasts }) (m .1) (a .idle .known) (idle-unassigned j y v (a .idle)) (a .candidate .names) (a .clear) in
             let step = by-fate d Evicts (takes (d .to) (d .flag) vs) x refl j s v q dec ∙ took j s v (d .to) (d .flag) vs in
-            (subst (λ (z : State). Stands j z t ends′ rests′ queue′ last′) (sym step) (o .0), o .1 ∙ ap records (sym step));
+            (subst (λ (z : State). Stands j z t ends′ rests′ queue′ last′) (sym step) (o .0), o .1 ∙ ap (λ (x : State). recordBuffers (records x)) (sym step));
       }

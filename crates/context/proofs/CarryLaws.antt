@@ -43,6 +43,9 @@ use Rattle.queue.specs.QueueWalk.{keyOf, setWord}
 use Rattle.stage.proofs.QueueLaws.{tournament-length, set-tournament, key-is, size-at, has-hints}
 use Rattle.stage.proofs.ReachedMoves.{table-stands, uses-lie, assign-gives, evict-loses, evict-held, evict-nothing, evictMarked, marked-yes, marked-no, marked-end}
 use Rattle.context.specs.Standing.{Begins, TableStands, Moves, Stands}
+use Rattle.context.specs.Slices.{RecordBuffers, recordBuffers, recordAt, setRecord}
+use Rattle.context.proofs.SliceLaws.{free, at-back, set-back}
+use Rattle.stage.proofs.ReachedSearch.{record-read}
 use Rattle.decisions.specs.Deciding.{shareOf, members, flagIn, isHeld, regIn}
 use Rattle.stage.specs.EvictWalk.{recordWeight}
 use Rattle.context.specs.Carrying.{EvictReads, TakeReads, TakenBack, EvictedAll, Taken}
@@ -221,31 +224,31 @@ held-as (Unassigned g) f r y p e = absurd (subst (λ (x : Bool). T (not x)) y tt
 held-as Dead f r y p e = absurd (subst (λ (x : Bool). T (not x)) y tt)
 
 -- those below i are done: the state then is x, and evicting the others from i on gives what evicting all gives
-pub record Onward (j : Job) (s : State) (t : StateBuffers) (i : ℕ) (gone : List Bool) (rs′ : List Assignment) (ends′ rests′ queue′ : List ℕ) : Type 0 where
+pub record Onward (j : Job) (s : State) (t : StateBuffers) (i : ℕ) (gone : List Bool) (rs′ : RecordBuffers) (ends′ rests′ queue′ : List ℕ) : Type 0 where
   pub x : State
   pub reached : Reached j x
   pub moves : Moves j x t ends′ rests′ queue′
-  pub records-are : rs′ ≡ records x
+  pub records-are : rs′ ≡ recordBuffers (records x)
   pub whole : evictMarked j gone i x i x ≡ evictAll j (members gone) s
 
-pub record EvictedTo (i : ℕ) (gone : List Bool) (rs : List Assignment) (maps uses sizes hints starts tos ends rests queue : List ℕ) (rs′ : List Assignment) (ends′ rests′ queue′ : List ℕ) : Type 0 where
+pub record EvictedTo (i : ℕ) (gone : List Bool) (rs : RecordBuffers) (maps uses sizes hints starts tos ends rests queue : List ℕ) (rs′ : RecordBuffers) (ends′ rests′ queue′ : List ℕ) : Type 0 where
   pub onward :
       (j : Job) (s : State) (t : StateBuffers)
       → Reached j s
       → EvictReads j maps uses sizes hints starts tos
       → Moves j s t ends rests queue
-      → rs ≡ records s
+      → rs ≡ recordBuffers (records s)
       → Onward j s t i gone rs′ ends′ rests′ queue′
 
-module _ (gone : List Bool) (rs : List Assignment) (maps uses sizes hints starts tos ends rests queue : List ℕ) where
-  abbrev To : ℕ → List Assignment → List ℕ → List ℕ → List ℕ → Type 0
+module _ (gone : List Bool) (rs : RecordBuffers) (maps uses sizes hints starts tos ends rests queue : List ℕ) where
+  abbrev To : ℕ → RecordBuffers → List ℕ → List ℕ → List ℕ → Type 0
   To i rs′ ends′ rests′ queue′ = EvictedTo i gone rs maps uses sizes hints starts tos ends rests queue rs′ ends′ rests′ queue′
 
   pub evict-start : To 0 rs ends rests queue
   unfolding members
   evict-start = record { onward = λ j s t reach e mv is. record { x = s; reached = reach; moves = mv; records-are = is; whole = refl } }
 
-  module _ (i : ℕ) (rs′ : List Assignment) (ends′ rests′ queue′ : List ℕ) (so-far : To i rs′ ends′ rests′ queue′) where
+  module _ (i : ℕ) (rs′ : RecordBuffers) (ends′ rests′ queue′ : List ℕ) (so-far : To i rs′ ends′ rests′ queue′) where
     pub evict-end : 512 ≤ i → EvictedAll gone rs maps uses sizes hints starts tos ends rests queue rs′ ends′ rests′ queue′
     evict-end h =
         record {
@@ -253,7 +256,7 @@ module _ (gone : List Bool) (rs : List Assignment) (maps uses sizes hints starts
               λ j s t reach e mv is.
               let o = so-far .onward j s t reach e mv is in
               let all : o .x ≡ evictAll j (members gone) s = marked-end j gone i (o .x) h ∙ o .whole in
-              (subst (λ (x : State). Moves j x t ends′ rests′ queue′) all (o .moves), o .records-are ∙ ap records all);
+              (subst (λ (x : State). Moves j x t ends′ rests′ queue′) all (o .moves), o .records-are ∙ ap (λ (x : State). recordBuffers (records x)) all);
         }
 
     -- i is not of the set
@@ -266,11 +269,10 @@ module _ (gone : List Bool) (rs : List Assignment) (maps uses sizes hints starts
               record { x = o .x; reached = o .reached; moves = o .moves; records-are = o .records-are; whole = marked-no j gone i (o .x) l n ∙ o .whole };
         }
 
-    module _ (l : i < 512) (m : getD gone i false ≡ true) (a d : Assignment) (has : getD rs′ i d ≡ a) where
+    module _ (l : i < 512) (m : getD gone i false ≡ true) (a : Assignment) (has : a ≡ recordAt rs′ i) where
       -- the record of i in a state whose records these are
-      own : (x : State) → rs′ ≡ records x → recordOf x i ≡ a
-      unfolding records
-      own x is = sym (from-zero (recordOf x) d 512 i l) ∙ sym (ap (λ (r : List Assignment). getD r i d) is) ∙ has
+      own : (x : State) → rs′ ≡ recordBuffers (records x) → recordOf x i ≡ a
+      own x is = sym (record-read x free i l) ∙ sym (at-back (records x) i) ∙ sym (ap (λ (r : RecordBuffers). recordAt r i) is) ∙ sym has
 
       -- i holds nothing
       pub evict-idle : isHeld a ≡ false → To (i + 1) rs′ ends′ rests′ queue′
@@ -302,8 +304,8 @@ module _ (gone : List Bool) (rs : List Assignment) (maps uses sizes hints starts
           → reg ≡ regIn a
           → (ends″ rests″ queue″ : List ℕ)
           → TakenBack i reg maps uses sizes hints starts tos ends′ rests′ queue′ ends″ rests″ queue″
-          → (rs″ : List Assignment)
-          → rs″ ≡ set rs′ i (Unassigned f)
+          → (rs″ : RecordBuffers)
+          → rs″ ≡ setRecord rs′ i (Unassigned f)
           → To (i + 1) rs″ ends″ rests″ queue″
       evict-one f reg y pf pr ends″ rests″ queue″ tb rs″ st =
           record {
@@ -319,9 +321,10 @@ module _ (gone : List Bool) (rs : List Assignment) (maps uses sizes hints starts
                   reached = subst (λ (y : State). Reached j y) gone-one (reached-evict j (o .x) (o .reached) i);
                   moves = tb .reached j (o .x) t (o .reached) e (o .moves) (candidate reg w) (h .0) refl;
                   records-are =
-                      st ∙ ap (λ (r : List Assignment). set r i (Unassigned f)) (o .records-are)
-                      ∙ ap (λ (b : Bool). set (records (o .x)) i (Unassigned b)) (sym (h .1))
-                      ∙ sym (lose-records j (o .x) g i (holder-good j (o .x) g i (candidate reg w) (h .0) .0) reg (not-left (holder-stays j (o .x) g i (candidate reg w) (h .0))));
+                      st ∙ ap (λ (r : RecordBuffers). setRecord r i (Unassigned f)) (o .records-are)
+                      ∙ set-back (records (o .x)) i (Unassigned f)
+                      ∙ ap (λ (b : Bool). recordBuffers (set (records (o .x)) i (Unassigned b))) (sym (h .1))
+                      ∙ sym (ap recordBuffers (lose-records j (o .x) g i (holder-good j (o .x) g i (candidate reg w) (h .0) .0) reg (not-left (holder-stays j (o .x) g i (candidate reg w) (h .0)))));
                   whole =
                       ap (λ (y : State). evictMarked j gone i (o .x) (i + 1) y) (sym gone-one)
                       ∙ marked-yes j gone i (o .x) l m ∙ o .whole;

@@ -17,7 +17,6 @@ use Rattle.job.specs.Model.{Job, virtReg, noVirtReg, classOf}
 use Rattle.job.specs.Layout.{JobBuffers, jobBuffers}
 use Rattle.job.proofs.Premises.{IsNumber, Plain}
 use Rattle.allocator.specs.State.{State, heldBy, isLeftOver, flag, lastGiven, assignment, recordOf, records}
-use Rattle.allocator.specs.declared.Assignment.{Assignment}
 use Rattle.allocator.specs.declared.CandidateReg.{CandidateReg}
 use Rattle.allocator.specs.declared.Stage.{Stage}
 use Rattle.allocator.specs.declared.Stage.the-variants.{Evict, Split}
@@ -31,7 +30,7 @@ use Rattle.allocator.proofs.Good.{Good, Idle, good-reached, queued-idle}
 use Rattle.order.specs.OrderWalk.{lastOf}
 use Rattle.order.specs.declared.Last.the-variants.{Reg as LastReg, NoReg}
 use Rattle.stage.specs.AllocateWalk.{availableIn, preferIn}
-use Rattle.stage.specs.EvictWalk.{noRecord}
+use Rattle.stage.specs.EvictWalk.{recordWeight}
 use Rattle.stage.specs.declared.allocate.Best.{Best}
 use Rattle.stage.specs.declared.allocate.Available.{Available}
 use Rattle.stage.specs.declared.allocate.Available.the-variants.{Clear, NoneClear, NoCandidates}
@@ -41,6 +40,8 @@ use Rattle.stage.proofs.ReachedSearch.{ownHinted, hinted-small, order-small, Se
 use Rattle.decisions.specs.declared.Fate.the-variants.{Takes, Splits, Fails}
 use Rattle.decisions.specs.Deciding.{members, decisionOf, decided, without, flagIn, lastIn, preferredOr, clearIn, evictedOr, noneClearIn, foundIn, inOrder, lentTo, classIn, hintedIn, decidedIn}
 use Rattle.context.specs.Standing.{JobReads, TableStands}
+use Rattle.context.specs.Slices.{RecordBuffers, recordBuffers, recordAt}
+use Rattle.context.proofs.SliceLaws.{free, at-back}
 use Rattle.decisions.proofs.DecideLaws.{decided-by}
 use Rattle.context.proofs.Shares.{froms-share, tos-share, values-share, hint-regs-share, hint-weights-share, class-share}
 
@@ -72,6 +73,10 @@ field-read f j v t l h = padded-read 512 (f noVirtReg) (map f (j .virtRegs)) t v
 
 -- ---- what is read of the job and the state
 
+-- the weight with which each number holds its register
+abbrev pub heldOf : State → List Float
+heldOf s = map recordWeight (records s)
+
 module _ (j : Job) (s : State) (g : Good j s) (B : JobBuffers) (R : JobReads j B) (v : ℕ) (b : IsNumber j v) where
   below : v < 512
   below = omega (arith, b, g .premises .few-numbers)
@@ -91,9 +96,9 @@ module _ (j : Job) (s : State) (g : Good j s) (B : JobBuffers) (R : JobReads j B
         values = rw (R .segmentStarts .1, R .values .1) (values-share j v b (R .segmentStarts .0) (R .values .0));
       }
 
-  pub search-lent : SearchLent j s (B .regs) (records s) (B .spillWeights)
+  pub search-lent : SearchLent j s (B .regs) (heldOf s) (B .spillWeights)
   search-lent =
-      record { maps-behind = R .regs .0; spills-behind = R .spillWeights .0; maps-are = R .regs .1; records-are = refl; spills-are = R .spillWeights .1 }
+      record { maps-behind = R .regs .0; spills-behind = R .spillWeights .0; maps-are = R .regs .1; held-are = refl; spills-are = R .spillWeights .1 }
 
   pub class-is : classIn B v ≡ classOf j v
   unfolding jobBuffers classIn
@@ -122,9 +127,9 @@ module _ (j : Job) (s : State) (g : Good j s) (B : JobBuffers) (R : JobReads j B
       (hinted-is (virtReg j v) (lastGiven j s v))
 
   -- who is not left over has its flag
-  pub flag-is : T (not (isLeftOver s v)) → flagIn (getD (records s) v noRecord) ≡ flag s v
+  pub flag-is : T (not (isLeftOver s v)) → flagIn (getD (records s) v free) ≡ flag s v
   unfolding recordOf
-  flag-is h = ap flagIn (record-read j s g (B .regs) (records s) (B .spillWeights) search-lent v below) ∙ go (isLeftOver s v) (heldBy s v) h
+  flag-is h = ap flagIn (record-read s free v below) ∙ go (isLeftOver s v) (heldBy s v) h
     where
       go : (l : Bool) (o : Option CandidateReg) → T (not l) → flagIn (assignment l (flag s v) o) ≡ flag s v
       go true o t = absurd t
@@ -142,14 +147,14 @@ module _ (j : Job) (s : State) (g : Good j s) (B : JobBuffers) (R : JobReads j B
 
     -- a clear candidate, or a preferred one
     prefers-is : (c : CandidateReg) (best : Best) (o : Option CandidateReg)
-        → PreferredIs j s g v b (lentTo B ends rests v) lentNow (B .regs) (records s) (B .spillWeights) search-lent best o → decisionOf (preferredOr c best) ≡ orPreferred j s v c o
+        → PreferredIs j s g v b (lentTo B ends rests v) lentNow (B .regs) (heldOf s) (B .spillWeights) search-lent best o → decisionOf (preferredOr c best) ≡ orPreferred j s v c o
     unfolding members
     prefers-is c best none e = rw e
     prefers-is c best (some d) f = rw (f .found, f .to, f .evicts)
 
     -- an eviction, or none
     evicts-is : (best : Best) (o : Option Eviction)
-        → BestIs j s g v b (lentTo B ends rests v) lentNow (B .regs) (records s) (B .spillWeights) search-lent best o → decisionOf (evictedOr (spillWeight j v) best) ≡ byEviction j s v o
+        → BestIs j s g v b (lentTo B ends rests v) lentNow (B .regs) (heldOf s) (B .spillWeights) search-lent best o → decisionOf (evictedOr (spillWeight j v) best) ≡ byEviction j s v o
     unfolding members
     evicts-is best none e = rw (e, plain-infinite (spillWeight j v) (g .premises .plain-spill v b)) (go (isInfinite (spillWeight j v)))
       where
@@ -159,55 +164,59 @@ module _ (j : Job) (s : State) (g : Good j s) (B : JobBuffers) (R : JobReads j B
     evicts-is best (some e) f = rw (f .0 .found, f .0 .to, f .0 .evicts, f .1)
 
     found-is : (q : Stage) (a : Available)
-        → decisionOf (foundIn (lentTo B ends rests v) (B .regs) (records s) (B .spillWeights) hinted (flag s v) (spillWeight j v) (order j v hinted) q a)
-        ≡ byAvailable j s g v b (lentTo B ends rests v) lentNow (B .regs) (records s) (B .spillWeights) search-lent hinted (order j v hinted) q a
+        → decisionOf (foundIn (lentTo B ends rests v) (B .regs) (heldOf s) (B .spillWeights) hinted (flag s v) (spillWeight j v) (order j v hinted) q a)
+        ≡ byAvailable j s g v b (lentTo B ends rests v) lentNow (B .regs) (heldOf s) (B .spillWeights) search-lent hinted (order j v hinted) q a
     unfolding foundIn clearIn noneClearIn
     found-is q NoCandidates = refl
     found-is q (Clear c) = go (lt (c .«preference_weight») (highestPreference hinted) && not (flag s v))
       where
         go : (t : Bool)
-            → decisionOf (cond t (preferredOr c (preferIn (lentTo B ends rests v) (B .regs) (records s) (B .spillWeights) c hinted)) (decided Takes c false (replicate 512 false)))
+            → decisionOf (cond t (preferredOr c (preferIn (lentTo B ends rests v) (B .regs) (heldOf s) (B .spillWeights) c hinted)) (decided Takes c false (replicate 512 false)))
             ≡ orPreferred j s v c (cond t (first (preferred j s v c) hinted) none)
         go true =
             prefers-is c _ (first (preferred j s v c) hinted)
-            (preferred-found j s g v b (lentTo B ends rests v) lentNow (B .regs) (records s) (B .spillWeights) search-lent c hinted (hinted-small j s g v b))
+            (preferred-found j s g v b (lentTo B ends rests v) lentNow (B .regs) (heldOf s) (B .spillWeights) search-lent c hinted (hinted-small j s g v b))
         go false = refl
     found-is Evict NoneClear =
         evicts-is _ (tryEvict j s v (order j v hinted))
-        (eviction-found j s g v b (lentTo B ends rests v) lentNow (B .regs) (records s) (B .spillWeights) search-lent (order j v hinted) (order-small j s g v b))
+        (eviction-found j s g v b (lentTo B ends rests v) lentNow (B .regs) (heldOf s) (B .spillWeights) search-lent (order j v hinted) (order-small j s g v b))
     found-is Split NoneClear = refl
 
-    in-order-is : (q : Stage) → decisionOf (inOrder (lentTo B ends rests v) (B .regs) (records s) (B .spillWeights) hinted (classOf j v) (flag s v) (spillWeight j v) q) ≡ decide j s v q
+    in-order-is : (q : Stage) → decisionOf (inOrder (lentTo B ends rests v) (B .regs) (heldOf s) (B .spillWeights) hinted (classOf j v) (flag s v) (spillWeight j v) q) ≡ decide j s v q
     unfolding inOrder
     in-order-is q =
         rw (offers-all j v hinted)
         (found-is q (availableIn (lentTo B ends rests v) (B .regs) false (order j v hinted))
-        ∙ sym (decide-found j s g v b (lentTo B ends rests v) lentNow (B .regs) (records s) (B .spillWeights) search-lent q))
+        ∙ sym (decide-found j s g v b (lentTo B ends rests v) lentNow (B .regs) (heldOf s) (B .spillWeights) search-lent q))
 
-    pub decision-read : (q : Stage) → T (not (isLeftOver s v)) → decisionOf (decidedIn B ends rests (lastWords s ++ lb) (records s) v q) ≡ decide j s v q
-    decision-read q h =
+    pub decision-read : (q : Stage) → decisionOf (decidedIn B ends rests (lastWords s ++ lb) (heldOf s) (flag s v) v q) ≡ decide j s v q
+    decision-read q =
         ap decisionOf
         (sym
-        (decided-by B ends rests (lastWords s ++ lb) (records s) v q (lentTo B ends rests v) hinted (classOf j v) (flag s v) (spillWeight j v) refl
+        (decided-by B ends rests (lastWords s ++ lb) (heldOf s) (flag s v) v q (lentTo B ends rests v) hinted (classOf j v) (spillWeight j v) refl
         (sym (hinted-read lb))
         (sym class-is)
-        (sym (flag-is h))
-        (sym (spill-read j s g (B .regs) (records s) (B .spillWeights) search-lent v below))))
+        (sym (spill-read j s g (B .regs) (heldOf s) (B .spillWeights) search-lent v below))))
         ∙ in-order-is q
 
 -- of a number that neither holds a register nor is left over
 pub decision-good :
     (j : Job) (s : State) → Good j s → (B : JobBuffers) → JobReads j B
     → (v : ℕ) → Idle j s v → (q : Stage)
-    → (et rt lb ends rests last : List ℕ) (rs : List Assignment) → TableStands s et rt ends rests → last ≡ lastWords s ++ lb → rs ≡ records s
-    → (length (classIn B v) ≤ 64) × (decisionOf (decidedIn B ends rests last rs v q) ≡ decide j s v q)
-decision-good j s g B R v i q et rt lb ends rests last rs S l r =
-    (class-few j s g B R v (i .known), rw (l, r) (decision-read j s g B R v (i .known) et rt lb ends rests S q (i .stays)))
+    → (et rt lb ends rests last : List ℕ) (rs : RecordBuffers) (f : Bool) → TableStands s et rt ends rests → last ≡ lastWords s ++ lb → rs ≡ recordBuffers (records s)
+    → f ≡ flagIn (recordAt rs v)
+    → (length (classIn B v) ≤ 64) × (decisionOf (decidedIn B ends rests last (rs .held) f v q) ≡ decide j s v q)
+unfolding recordBuffers
+decision-good j s g B R v i q et rt lb ends rests last rs f S l r e =
+    let w : rs .held ≡ heldOf s = ap (λ (x : RecordBuffers). x .held) r in
+    let o : f ≡ flag s v = e ∙ ap (λ (x : RecordBuffers). flagIn (recordAt x v)) r ∙ ap flagIn (at-back (records s) v) ∙ flag-is j s g B R v (i .known) (i .stays) in
+    (class-few j s g B R v (i .known), rw (l, w, o) (decision-read j s g B R v (i .known) et rt lb ends rests S q))
 
 -- of a number that is queued, on a state that calls reach
 pub decision-is :
     (j : Job) (s : State) → Reached j s → (B : JobBuffers) → JobReads j B
     → (v : ℕ) (q : Stage) → queuedAt s v ≡ some q
-    → (et rt lb ends rests last : List ℕ) (rs : List Assignment) → TableStands s et rt ends rests → last ≡ lastWords s ++ lb → rs ≡ records s
-    → (length (classIn B v) ≤ 64) × (decisionOf (decidedIn B ends rests last rs v q) ≡ decide j s v q)
+    → (et rt lb ends rests last : List ℕ) (rs : RecordBuffers) (f : Bool) → TableStands s et rt ends rests → last ≡ lastWords s ++ lb → rs ≡ recordBuffers (records s)
+    → f ≡ flagIn (recordAt rs v)
+    → (length (classIn B v) ≤ 64) × (decisionOf (decidedIn B ends rests last (rs .held) f v q) ≡ decide j s v q)
 decision-is j s r B R v q e = let g = good-reached j s r in decision-good j s g B R v (queued-idle j s g v q e) q

@@ -28,12 +28,14 @@ use Rattle.queue.specs.declared.Next.{Next}
 use Rattle.queue.specs.declared.Next.the-variants.{Nobody, Number}
 use Rattle.stage.proofs.QueueLaws.{tournament-length, greatest-next}
 use Rattle.context.specs.Standing.{JobReads, JobStands, Stands}
+use Rattle.context.specs.Slices.{RecordBuffers, recordBuffers, recordAt, recordsIn}
+use Rattle.context.proofs.SliceLaws.{records-length, records-back}
 use Rattle.decisions.specs.declared.Fate.{Fate}
 use Rattle.decisions.specs.declared.Fate.the-variants.{Leaves, Takes, Evicts, Splits, Fails}
 use Rattle.decisions.specs.declared.Decided.{Decided}
-use Rattle.decisions.specs.Deciding.{decisionBy, decisionOf, classIn, decidedIn, reading}
+use Rattle.decisions.specs.Deciding.{decisionBy, decisionOf, classIn, decidedIn, reading, flagIn}
 use Rattle.context.specs.Carrying.{EvictReads, TakeReads, CarriedOut}
-use Rattle.context.specs.Running.{lentJob, lentState, isFails, endingNumber, RunDone}
+use Rattle.context.specs.Running.{lentJob, lentState, isFails, endingNumber, RunMade, RunDone}
 use Rattle.context.proofs.Decision.{decision-is}
 
 -- ---- the rules' run, one dequeue at a time
@@ -112,24 +114,24 @@ module _ (j : Job) (x : State) (reach : Reached j x) (t queue : List ℕ) (is : 
 -- ---- the loop
 
 -- after some dequeues the state is x, and `left` more may be made
-pub record Going (j : Job) (s : State) (t : StateBuffers) (budget left : ℕ) (rs′ : List Assignment) (S′ : StateBuffers) : Type 0 where
+pub record Going (j : Job) (s : State) (t : StateBuffers) (budget left : ℕ) (rs′ : RecordBuffers) (S′ : StateBuffers) : Type 0 where
   pub x : State
   pub reached : Reached j x
   pub stands : Stands j x t (S′ .ends) (S′ .rests) (S′ .queue) (S′ .last)
-  pub records-are : rs′ ≡ records x
+  pub records-are : rs′ ≡ recordBuffers (records x)
   pub whole : runFrom left j (budget - left) (goesOn x) ≡ run j budget s
 
-pub record RunTo (budget left : ℕ) (B : JobBuffers) (rs : List Assignment) (S : StateBuffers) (rs′ : List Assignment) (S′ : StateBuffers) : Type 0 where
+pub record RunTo (budget left : ℕ) (B : JobBuffers) (rs : RecordBuffers) (S : StateBuffers) (rs′ : RecordBuffers) (S′ : StateBuffers) : Type 0 where
   pub within : left ≤ budget
   pub onward :
       (j : Job) (s : State) (t : StateBuffers)
       → Reached j s
       → JobStands j B
       → Stands j s t (S .ends) (S .rests) (S .queue) (S .last)
-      → rs ≡ records s
+      → rs ≡ recordBuffers (records s)
       → Going j s t budget left rs′ S′
 
-module _ (budget : ℕ) (B : JobBuffers) (rs : List Assignment) (S : StateBuffers) where
+module _ (budget : ℕ) (B : JobBuffers) (rs : RecordBuffers) (S : StateBuffers) where
   pub run-start : RunTo budget budget B rs S rs S
   unfolding run
   run-start =
@@ -142,19 +144,19 @@ module _ (budget : ℕ) (B : JobBuffers) (rs : List Assignment) (S : StateBuffer
       }
 
   -- the run is over in the state x
-  ends-in : (j : Job) (s : State) (t : StateBuffers) (rs′ : List Assignment) (S′ : StateBuffers) (e n : ℕ) (a : Ran) → a ≡ run j budget s
-      → Stands j (a .state) t (S′ .ends) (S′ .rests) (S′ .queue) (S′ .last) → rs′ ≡ records (a .state) → e ≡ endingNumber (a .ending) → n ≡ a .dequeues
-      → Stands j (run j budget s .state) t (S′ .ends) (S′ .rests) (S′ .queue) (S′ .last) × (rs′ ≡ records (run j budget s .state)) × (e ≡ endingNumber (run j budget s .ending)) × (n ≡ run j budget s .dequeues)
+  ends-in : (j : Job) (s : State) (t : StateBuffers) (rs′ : RecordBuffers) (S′ : StateBuffers) (e n : ℕ) (a : Ran) → a ≡ run j budget s
+      → Stands j (a .state) t (S′ .ends) (S′ .rests) (S′ .queue) (S′ .last) → rs′ ≡ recordBuffers (records (a .state)) → e ≡ endingNumber (a .ending) → n ≡ a .dequeues
+      → Stands j (run j budget s .state) t (S′ .ends) (S′ .rests) (S′ .queue) (S′ .last) × (rs′ ≡ recordBuffers (records (run j budget s .state))) × (e ≡ endingNumber (run j budget s .ending)) × (n ≡ run j budget s .dequeues)
   ends-in j s t rs′ S′ e n a p st is pe pn = (
     subst (λ (r : Ran). Stands j (r .state) t (S′ .ends) (S′ .rests) (S′ .queue) (S′ .last)) p st,
-    is ∙ ap (λ (r : Ran). records (r .state)) p,
+    is ∙ ap (λ (r : Ran). recordBuffers (records (r .state))) p,
     pe ∙ ap (λ (r : Ran). endingNumber (r .ending)) p,
     pn ∙ ap (λ (r : Ran). r .dequeues) p,
   )
 
-  module _ (left : ℕ) (rs′ : List Assignment) (S′ : StateBuffers) (so-far : RunTo budget left B rs S rs′ S′) where
+  module _ (left : ℕ) (rs′ : RecordBuffers) (S′ : StateBuffers) (so-far : RunTo budget left B rs S rs′ S′) where
     -- nobody waits
-    pub run-done : decoded (getD (S′ .queue) 1 0) ≡ Nobody → RunDone budget B rs S rs′ S′ 1 (budget - left)
+    pub run-done : decoded (getD (S′ .queue) 1 0) ≡ Nobody → RunMade budget B rs S rs′ S′ 1 (budget - left)
     run-done nobody =
         record {
           reached =
@@ -166,7 +168,7 @@ module _ (budget : ℕ) (B : JobBuffers) (rs : List Assignment) (S : StateBuffer
 
     module _ (v : ℕ) (q : Stage) (next : decoded (getD (S′ .queue) 1 0) ≡ Number v q) where
       -- the budget is spent
-      pub run-spent : left ≡ 0 → RunDone budget B rs S rs′ S′ 2 budget
+      pub run-spent : left ≡ 0 → RunMade budget B rs S rs′ S′ 2 budget
       run-spent none-left =
           record {
             reached =
@@ -180,9 +182,10 @@ module _ (budget : ℕ) (B : JobBuffers) (rs : List Assignment) (S : StateBuffer
           }
 
       -- one more dequeue is made
-      module _ (more : left ≡ 0 → ⊥) (d : Decided) (rs″ : List Assignment) (S″ : StateBuffers)
+      module _ (more : left ≡ 0 → ⊥) (d : Decided) (rs″ : RecordBuffers) (S″ : StateBuffers)
           (B′ : JobBuffers) (reads : (j : Job) → JobStands j B → JobReads j B′)
-          (says : length (classIn B′ v) ≤ 64 → d ≡ decidedIn B′ (S′ .ends) (S′ .rests) (S′ .last) rs′ v q)
+          (f : Bool) (flag-is : f ≡ flagIn (recordAt rs′ v))
+          (says : length (classIn B′ v) ≤ 64 → d ≡ decidedIn B′ (S′ .ends) (S′ .rests) (S′ .last) (rs′ .held) f v q)
           (carried : CarriedOut d v rs′ (B .regs) (B .fixedUses) (B .valueSets) (B .sizes) (B .hintStarts) (B .segmentStarts) (B .froms) (B .tos) (S′ .ends) (S′ .rests) (S′ .queue) (S′ .last) rs″ (S″ .ends) (S″ .rests) (S″ .queue) (S″ .last)) where
         -- what it leaves
         record Left (j : Job) (s : State) (t : StateBuffers) : Type 0 where
@@ -193,15 +196,15 @@ module _ (budget : ℕ) (B : JobBuffers) (rs : List Assignment) (S : StateBuffer
           pub same : dequeue j before (number .number) (number .stage) ≡ dequeue j before v q
           pub reached : Reached j (stateOf (dequeue j before v q))
           pub stands : Stands j (stateOf (dequeue j before v q)) t (S″ .ends) (S″ .rests) (S″ .queue) (S″ .last)
-          pub records-are : rs″ ≡ records (stateOf (dequeue j before v q))
+          pub records-are : rs″ ≡ recordBuffers (records (stateOf (dequeue j before v q)))
           pub whole : runFrom left j (budget - left) (goesOn before) ≡ run j budget s
 
-        left-by : (j : Job) (s : State) (t : StateBuffers) → Reached j s → JobStands j B → Stands j s t (S .ends) (S .rests) (S .queue) (S .last) → rs ≡ records s → Left j s t
+        left-by : (j : Job) (s : State) (t : StateBuffers) → Reached j s → JobStands j B → Stands j s t (S .ends) (S .rests) (S .queue) (S .last) → rs ≡ recordBuffers (records s) → Left j s t
         left-by j s t reach b st is =
             let o = so-far .onward j s t reach b st is in
             let k = some-next j (o .x) (o .reached) (t .queue) (S′ .queue) (o .stands .moves .queue-is) v q next in
             let queued : queuedAt (o .x) v ≡ some q = subst (λ (n : ℕ). queuedAt (o .x) n ≡ some q) (k .2) (next-queued j (o .x) (k .0) (k .1) ∙ ap some (k .3)) in
-            let dec = decision-is j (o .x) (o .reached) B′ (reads j b) v q queued (t .ends) (t .rests) (t .last) (S′ .ends) (S′ .rests) (S′ .last) rs′ (o .stands .moves .table) (o .stands .last-is) (o .records-are) in
+            let dec = decision-is j (o .x) (o .reached) B′ (reads j b) v q queued (t .ends) (t .rests) (t .last) (S′ .ends) (S′ .rests) (S′ .last) rs′ f (o .stands .moves .table) (o .stands .last-is) (o .records-are) flag-is in
             let is-it : decisionOf d ≡ decide j (o .x) v q = ap decisionOf (says (dec .0)) ∙ dec .1 in
             let alike : dequeue j (o .x) (k .0 .number) (k .0 .stage) ≡ dequeue j (o .x) v q = ap (λ (n : ℕ). dequeue j (o .x) n (k .0 .stage)) (k .2) ∙ ap (dequeue j (o .x) v) (k .3) in
             let after =
@@ -248,7 +251,7 @@ module _ (budget : ℕ) (B : JobBuffers) (rs : List Assignment) (S : StateBuffer
                   record { x = stateOf (dequeue j (l .before) v q); reached = l .reached; stands = l .stands; records-are = l .records-are; whole = stepped j s t l _ y };
             }
 
-        pub run-toomany : isFails (d .fate) ≡ true → RunDone budget B rs S rs″ S″ 3 (budget - (left - 1))
+        pub run-toomany : isFails (d .fate) ≡ true → RunMade budget B rs S rs″ S″ 3 (budget - (left - 1))
         run-toomany e =
             record {
               reached =
@@ -260,6 +263,21 @@ module _ (budget : ℕ) (B : JobBuffers) (rs : List Assignment) (S : StateBuffer
                   (sym (from-over j (stateOf (dequeue j (l .before) v q)) (left - 1) (budget - (left - 1))) ∙ stepped j s t l _ y)
                   (l .stands) (l .records-are) refl refl;
             }
+
+-- the records that are stored in slices before and read from them after
+pub run-whole :
+    (budget : ℕ) (B : JobBuffers) (rs : List Assignment) (S : StateBuffers) (rs′ : List Assignment) (S′ : StateBuffers) (e n : ℕ) (R R′ : RecordBuffers)
+    → RunMade budget B R S R′ S′ e n
+    → (length rs ≡ 512 → R ≡ recordBuffers rs)
+    → rs′ ≡ recordsIn R′
+    → RunDone budget B rs S rs′ S′ e n
+run-whole budget B rs S rs′ S′ e n R R′ made before after =
+    record {
+      reached =
+          λ j s t reach b st is.
+          let o = made .reached j s t reach b st (before (ap length is ∙ records-length s) ∙ ap recordBuffers is) in
+          (o .0, after ∙ ap recordsIn (o .1) ∙ records-back (records (run j budget s .state)) (records-length (run j budget s .state)), o .2, o .3);
+    }
 
 -- what a decision reads is among what is lent to a run
 pub reads-of :

@@ -9,7 +9,6 @@ use lib.Dec.{T}
 use lib.ListN.{length, getD}
 use Rattle.job.specs.Model.{Job}
 use Rattle.job.specs.Layout.{jobBuffers}
-use Rattle.allocator.specs.declared.Assignment.{Assignment}
 use Rattle.allocator.specs.declared.CandidateReg.{CandidateReg}
 use Rattle.allocator.specs.declared.Stage.{Stage}
 use Rattle.allocator.specs.State.{State, heldBy, isUnassigned, checkOf, records, give, lose}
@@ -18,6 +17,7 @@ use Rattle.allocator.specs.Layout.{StateBuffers}
 use Rattle.allocator.specs.Calls.{named}
 use Rattle.allocator.specs.Reached.{Reached}
 use Rattle.context.specs.Standing.{Begins, Moves, Stands}
+use Rattle.context.specs.Slices.{RecordBuffers, recordBuffers}
 use Rattle.decisions.specs.declared.Decided.{Decided}
 use Rattle.decisions.specs.Deciding.{members, decisionOf}
 
@@ -52,14 +52,14 @@ pub record TakenBack (v reg : ℕ) (maps uses sizes hints starts tos ends rests 
       → Moves j (lose j v (c .reg) s) t ends′ rests′ queue′
 
 -- all of a set are evicted
-pub record EvictedAll (gone : List Bool) (rs : List Assignment) (maps uses sizes hints starts tos ends rests queue : List ℕ) (rs′ : List Assignment) (ends′ rests′ queue′ : List ℕ) : Type 0 where
+pub record EvictedAll (gone : List Bool) (R : RecordBuffers) (maps uses sizes hints starts tos ends rests queue : List ℕ) (R′ : RecordBuffers) (ends′ rests′ queue′ : List ℕ) : Type 0 where
   pub reached :
       (j : Job) (s : State) (t : StateBuffers)
       → Reached j s
       → EvictReads j maps uses sizes hints starts tos
       → Moves j s t ends rests queue
-      → rs ≡ records s
-      → Moves j (evictAll j (members gone) s) t ends′ rests′ queue′ × (rs′ ≡ records (evictAll j (members gone) s))
+      → R ≡ recordBuffers (records s)
+      → Moves j (evictAll j (members gone) s) t ends′ rests′ queue′ × (R′ ≡ recordBuffers (records (evictAll j (members gone) s)))
 
 -- v, which holds nothing, takes a register that it may have and that is clear
 pub record Taken (v reg : ℕ) (maps uses sets starts froms tos ends rests queue last ends′ rests′ queue′ last′ : List ℕ) : Type 0 where
@@ -77,28 +77,28 @@ pub record Taken (v reg : ℕ) (maps uses sets starts froms tos ends rests queue
       → Stands j (give j v c f s) t ends′ rests′ queue′ last′
 
 -- v, which holds nothing, takes the register that was decided, and its record says so
-pub record Settled (d : Decided) (v : ℕ) (rs : List Assignment) (maps uses sets starts froms tos ends rests queue last : List ℕ) (rs′ : List Assignment) (ends′ rests′ queue′ last′ : List ℕ) : Type 0 where
+pub record Settled (d : Decided) (v : ℕ) (R : RecordBuffers) (maps uses sets starts froms tos ends rests queue last : List ℕ) (R′ : RecordBuffers) (ends′ rests′ queue′ last′ : List ℕ) : Type 0 where
   pub reached :
       (j : Job) (s : State) (t : StateBuffers)
       → Reached j s
       → TakeReads j maps uses sets starts froms tos
       → Stands j s t ends rests queue last
-      → rs ≡ records s
+      → R ≡ recordBuffers (records s)
       → v < length (j .virtRegs)
       → T (isUnassigned s v)
       → T (named j v (d .to .reg))
       → checkOf j s v (d .to .reg) ≡ []
-      → Stands j (give j v (d .to) (d .flag) s) t ends′ rests′ queue′ last′ × (rs′ ≡ records (give j v (d .to) (d .flag) s))
+      → Stands j (give j v (d .to) (d .flag) s) t ends′ rests′ queue′ last′ × (R′ ≡ recordBuffers (records (give j v (d .to) (d .flag) s)))
 
 -- what the dequeue of v decides is carried out
-pub record CarriedOut (d : Decided) (v : ℕ) (rs : List Assignment) (maps uses sets sizes hints starts froms tos ends rests queue last : List ℕ) (rs′ : List Assignment) (ends′ rests′ queue′ last′ : List ℕ) : Type 0 where
+pub record CarriedOut (d : Decided) (v : ℕ) (R : RecordBuffers) (maps uses sets sizes hints starts froms tos ends rests queue last : List ℕ) (R′ : RecordBuffers) (ends′ rests′ queue′ last′ : List ℕ) : Type 0 where
   pub reached :
       (j : Job) (s : State) (t : StateBuffers) (q : Stage)
       → Reached j s
       → EvictReads j maps uses sizes hints starts tos
       → TakeReads j maps uses sets starts froms tos
       → Stands j s t ends rests queue last
-      → rs ≡ records s
+      → R ≡ recordBuffers (records s)
       → getD (s .queued) v none ≡ some q
       → decisionOf d ≡ decide j s v q
-      → Stands j (stateOf (dequeue j s v q)) t ends′ rests′ queue′ last′ × (rs′ ≡ records (stateOf (dequeue j s v q)))
+      → Stands j (stateOf (dequeue j s v q)) t ends′ rests′ queue′ last′ × (R′ ≡ recordBuffers (records (stateOf (dequeue j s v q))))

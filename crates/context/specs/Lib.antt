@@ -1,3 +1,4 @@
 pub mod Standing
+pub mod Slices
 pub mod Carrying
 pub mod Running

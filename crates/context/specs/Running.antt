@@ -15,6 +15,7 @@ use Rattle.allocator.specs.Layout.{StateBuffers}
 use Rattle.allocator.specs.Run.{run}
 use Rattle.allocator.specs.Reached.{Reached}
 use Rattle.context.specs.Standing.{JobStands, Stands}
+use Rattle.context.specs.Slices.{RecordBuffers, recordBuffers}
 use Rattle.decisions.specs.declared.Fate.{Fate}
 use Rattle.decisions.specs.declared.Fate.the-variants.{Leaves, Takes, Evicts, Splits, Fails}
 
@@ -57,6 +58,20 @@ isFails Evicts = false
 isFails Splits = false
 isFails Fails = true
 
+-- over the records in slices
+pub record RunMade (budget : ℕ) (B : JobBuffers) (R : RecordBuffers) (S : StateBuffers) (R′ : RecordBuffers) (S′ : StateBuffers) (ending dequeues : ℕ) : Type 0 where
+  pub reached :
+      (j : Job) (s : State) (t : StateBuffers)
+      → Reached j s
+      → JobStands j B
+      → Stands j s t (S .ends) (S .rests) (S .queue) (S .last)
+      → R ≡ recordBuffers (records s)
+      → Stands j (run j budget s .state) t (S′ .ends) (S′ .rests) (S′ .queue) (S′ .last)
+      × (R′ ≡ recordBuffers (records (run j budget s .state)))
+      × (ending ≡ endingNumber (run j budget s .ending))
+      × (dequeues ≡ run j budget s .dequeues)
+
+-- over the records themselves
 pub record RunDone (budget : ℕ) (B : JobBuffers) (rs : List Assignment) (S : StateBuffers) (rs′ : List Assignment) (S′ : StateBuffers) (ending dequeues : ℕ) : Type 0 where
   pub reached :
       (j : Job) (s : State) (t : StateBuffers)

@@ -4,7 +4,10 @@ ghost use lib.Dec.{ltb};
 ghost use lib.ListN.{getD};
 ghost use Prim.Native.Nat.{_+_, _<_};
 ghost use Rattle.decisions.specs.Deciding.{isHeld, regIn, givenRecord};
+ghost use Rattle.context.specs.Slices.{lentRecords};
 ghost use Rattle.context.specs.Carrying.{TakenBack, EvictedAll, Taken, Settled, CarriedOut};
+use crate::slices::put_record;
+use crate::slices::record_at;
 use allocator::Assignment;
 use allocator::CandidateReg;
 use allocator::Stage;
@@ -92,7 +95,6 @@ pub fn reg_of(a: Assignment) -> u8
 
 // All of a set lose their registers, in ascending order.
 fn evict_all(
-    records: [Assignment; 512],
     gone: [bool; 512],
     maps: &[u64],
     uses: &[u64],
@@ -103,20 +105,23 @@ fn evict_all(
     ends: &mut [u64],
     rests: &mut [u64],
     queue: &mut [u64],
-) -> [Assignment; 512]
-    ensures { λ r. ⌜ EvictedAll gone records (now (maps .entry)) (now (uses .entry)) (now (sizes .entry)) (now («hint_starts» .entry)) (now («segment_starts» .entry)) (now (tos .entry)) (now (ends .entry)) (now (rests .entry)) (now (queue .entry)) r (now (ends .exit)) (now (rests .exit)) (now (queue .exit)) ⌝ }
+    kinds: &mut [u8],
+    regs: &mut [u8],
+    held: &mut [f32],
+)
+    ensures { λ r. ⌜ EvictedAll gone (lentRecords (now (kinds .entry)) (now (regs .entry)) (now (held .entry))) (now (maps .entry)) (now (uses .entry)) (now (sizes .entry)) (now («hint_starts» .entry)) (now («segment_starts» .entry)) (now (tos .entry)) (now (ends .entry)) (now (rests .entry)) (now (queue .entry)) (lentRecords (now (kinds .exit)) (now (regs .exit)) (now (held .exit))) (now (ends .exit)) (now (rests .exit)) (now (queue .exit)) ⌝ }
 {
-    let mut all = records;
     let mut i: usize = 0;
     while i < 512 {
         let v = i;
         i += 1;
         if gone[v] {
-            let a = all[v];
+            let a = record_at(kinds, regs, held, v);
             if is_assigned(a) {
-                all[v] = Assignment::Unassigned {
+                let evicted = Assignment::Unassigned {
                     evicted_for_preference: flag_of(a),
                 };
+                put_record(kinds, regs, held, v, evicted);
                 take_back(
                     v as u16,
                     reg_of(a),
@@ -133,7 +138,6 @@ fn evict_all(
             }
         }
     }
-    all
 }
 
 // How a register is kept as the last one of a set.
@@ -187,7 +191,6 @@ fn given(flag: bool, before: Assignment, to: CandidateReg) -> Assignment
 
 // The number takes the register that was decided, and its record says so.
 fn settle(
-    records: [Assignment; 512],
     d: Decided,
     v: u16,
     maps: &[u64],
@@ -200,17 +203,16 @@ fn settle(
     rests: &mut [u64],
     queue: &mut [u64],
     last: &mut [u8],
-) -> [Assignment; 512]
-    ensures { λ r. ⌜ Settled d v records (now (maps .entry)) (now (uses .entry)) (now (sets .entry)) (now («segment_starts» .entry)) (now (froms .entry)) (now (tos .entry)) (now (ends .entry)) (now (rests .entry)) (now (queue .entry)) (now (last .entry)) r (now (ends .exit)) (now (rests .exit)) (now (queue .exit)) (now (last .exit)) ⌝ }
+    kinds: &mut [u8],
+    regs: &mut [u8],
+    held: &mut [f32],
+)
+    ensures { λ r. ⌜ Settled d v (lentRecords (now (kinds .entry)) (now (regs .entry)) (now (held .entry))) (now (maps .entry)) (now (uses .entry)) (now (sets .entry)) (now («segment_starts» .entry)) (now (froms .entry)) (now (tos .entry)) (now (ends .entry)) (now (rests .entry)) (now (queue .entry)) (now (last .entry)) (lentRecords (now (kinds .exit)) (now (regs .exit)) (now (held .exit))) (now (ends .exit)) (now (rests .exit)) (now (queue .exit)) (now (last .exit)) ⌝ }
 {
     let i = v as usize;
-    if 512 <= i {
-        return records;
-    }
     let to = d.to;
-    let mut all = records;
-    let a = all[i];
-    all[i] = given(d.flag, a, to);
+    let a = record_at(kinds, regs, held, i);
+    put_record(kinds, regs, held, i, given(d.flag, a, to));
     take(
         v,
         to.reg,
@@ -225,12 +227,10 @@ fn settle(
         queue,
         last,
     );
-    all
 }
 
-// What the dequeue of v decided is carried out: the records afterwards.
+// What the dequeue of v decided is carried out.
 pub fn carry_out(
-    records: [Assignment; 512],
     d: Decided,
     v: u16,
     maps: &[u64],
@@ -245,20 +245,18 @@ pub fn carry_out(
     rests: &mut [u64],
     queue: &mut [u64],
     last: &mut [u8],
-) -> [Assignment; 512]
-    ensures { λ r. ⌜ CarriedOut d v records (now (maps .entry)) (now (uses .entry)) (now (sets .entry)) (now (sizes .entry)) (now («hint_starts» .entry)) (now («segment_starts» .entry)) (now (froms .entry)) (now (tos .entry)) (now (ends .entry)) (now (rests .entry)) (now (queue .entry)) (now (last .entry)) r (now (ends .exit)) (now (rests .exit)) (now (queue .exit)) (now (last .exit)) ⌝ }
+    kinds: &mut [u8],
+    regs: &mut [u8],
+    held: &mut [f32],
+)
+    ensures { λ r. ⌜ CarriedOut d v (lentRecords (now (kinds .entry)) (now (regs .entry)) (now (held .entry))) (now (maps .entry)) (now (uses .entry)) (now (sets .entry)) (now (sizes .entry)) (now («hint_starts» .entry)) (now («segment_starts» .entry)) (now (froms .entry)) (now (tos .entry)) (now (ends .entry)) (now (rests .entry)) (now (queue .entry)) (now (last .entry)) (lentRecords (now (kinds .exit)) (now (regs .exit)) (now (held .exit))) (now (ends .exit)) (now (rests .exit)) (now (queue .exit)) (now (last .exit)) ⌝ }
 {
     let i = v as usize;
-    if 512 <= i {
-        return records;
-    }
     let fate = d.fate;
     match fate {
         Fate::Leaves => {
             remove(queue, v); // left over
-            let mut all = records;
-            all[i] = Assignment::Dead;
-            all
+            put_record(kinds, regs, held, i, Assignment::Dead);
         }
         Fate::Splits => {
             enqueue(
@@ -268,44 +266,12 @@ pub fn carry_out(
                 at32(sizes, i),
                 Stage::Split,
             );
-            records
         }
         Fate::Fails => {
             remove(queue, v); // too many
-            records
         }
-        Fate::Takes => settle(
-            records,
-            d,
-            v,
-            maps,
-            uses,
-            sets,
-            segment_starts,
-            froms,
-            tos,
-            ends,
-            rests,
-            queue,
-            last,
-        ),
-        Fate::Evicts => {
-            let gone = d.evicted;
-            let all = evict_all(
-                records,
-                gone,
-                maps,
-                uses,
-                sizes,
-                hint_starts,
-                segment_starts,
-                tos,
-                ends,
-                rests,
-                queue,
-            );
+        Fate::Takes => {
             settle(
-                all,
                 d,
                 v,
                 maps,
@@ -318,7 +284,45 @@ pub fn carry_out(
                 rests,
                 queue,
                 last,
-            )
+                kinds,
+                regs,
+                held,
+            );
+        }
+        Fate::Evicts => {
+            let gone = d.evicted;
+            evict_all(
+                gone,
+                maps,
+                uses,
+                sizes,
+                hint_starts,
+                segment_starts,
+                tos,
+                ends,
+                rests,
+                queue,
+                kinds,
+                regs,
+                held,
+            );
+            settle(
+                d,
+                v,
+                maps,
+                uses,
+                sets,
+                segment_starts,
+                froms,
+                tos,
+                ends,
+                rests,
+                queue,
+                last,
+                kinds,
+                regs,
+                held,
+            );
         }
     }
 }

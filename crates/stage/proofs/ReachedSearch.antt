@@ -25,6 +25,7 @@ use Rattle.job.specs.Layout.{jobBuffers}
 use Rattle.job.proofs.Premises.{IsNumber}
 use Rattle.job.proofs.Lists.{filter-same}
 use Rattle.allocator.specs.State.{State, heldBy, isLeftOver, flag, lastGiven, weightOf, checkOf, assignment, recordOf, records}
+use Rattle.allocator.specs.declared.Assignment.{Assignment}
 use Rattle.allocator.specs.declared.Assignment.the-variants.{Dead}
 use Rattle.allocator.specs.declared.CandidateReg.{CandidateReg}
 use Rattle.allocator.specs.declared.EvictCost.{EvictCost}
@@ -84,9 +85,9 @@ module _ (j : Job) (s : State) (g : Good j s) (v : ℕ) (b : IsNumber j v) where
 -- ---- what else is lent to a search
 
 -- the record of v among the 512
-pub record-read : (s : State) (v : ℕ) → v < 512 → getD (records s) v Dead ≡ recordOf s v
+pub record-read : (s : State) (d : Assignment) (v : ℕ) → v < 512 → getD (records s) v d ≡ recordOf s v
 unfolding records
-record-read s v h = from-zero (recordOf s) Dead 512 v h
+record-read s d v h = from-zero (recordOf s) d 512 v h
 
 -- the registers' maps and the spill weights, as loading leaves them with whatever is lent behind, and the weights held
 pub record SearchLent (j : Job) (s : State) (maps : List ℕ) (ws : List Float) (ss : List Float) : Type 0 where
@@ -112,7 +113,7 @@ module _ (j : Job) (s : State) (g : Good j s) (maps : List ℕ) (ws : List Float
   pub held-read : (v : ℕ) → v < 512 → weightIn ws v ≡ weightOf (heldBy s v)
   unfolding recordOf
   held-read v h =
-      ap (λ (l : List Float). getD l v zeroWeight) (S .held-are) ∙ List·getD-map recordWeight (records s) v Dead ∙ ap recordWeight (record-read s v h)
+      ap (λ (l : List Float). getD l v zeroWeight) (S .held-are) ∙ List·getD-map recordWeight (records s) v Dead ∙ ap recordWeight (record-read s Dead v h)
       ∙ go (heldBy s v) refl
     where
       nothing : (l : Bool) → recordWeight (assignment l (flag s v) none) ≡ zeroWeight

@@ -1,11 +1,8 @@
 use borrow.Author.Needs.{needs}
-use mathlib.Core.Path.{refl}
-use Rattle.context.proofs.Carried.{carried-nobody, carried-leaves, carried-splits, carried-fails, carried-takes, carried-evicts}
+use mathlib.Core.Path.{_∙_}
+use Rattle.context.proofs.Carried.{carried-leaves, carried-splits, carried-fails, carried-takes, carried-evicts}
 use Rattle.context.proofs.carry.carry_out.Statement.{statement}
 use Rattle.context.proofs.carry.carry_out.Tie as tie
-
-returns : tie.Need-returns
-returns c = carried-nobody _ _ _ _ _ _ _ _ _ _ _ _ _ _ _ (c .if1 .taken)
 
 enum-told : tie.Need-enum-told
 enum-told c = search needs
@@ -13,11 +10,8 @@ enum-told c = search needs
 remove-requires : tie.Need-remove-requires
 remove-requires c κs = search needs
 
-mul-all : tie.Need-mul-all
-mul-all c = search needs
-
-array-set-from-all : tie.Need-array-set-from-all
-array-set-from-all c = search needs
+put-record-requires : tie.Need-put-record-requires
+put-record-requires c κs = search needs
 
 enum-told-2 : tie.Need-enum-told-2
 enum-told-2 c = search needs
@@ -55,35 +49,32 @@ settle-requires-2 c κs = search needs
 same-length : tie.Need-same-length
 same-length c = search needs
 
-returns-2 : tie.Need-returns-2
-returns-2 c = carried-leaves _ _ _ _ _ _ _ _ _ _ _ _ _ _ _ (c .before .before .before .before .enum-told .given .1) _ (c .before .before .remove .ensures) _ refl
-
 same-length-2 : tie.Need-same-length-2
 same-length-2 c = search needs
-
-returns-3 : tie.Need-returns-3
-returns-3 c = carried-splits _ _ _ _ _ _ _ _ _ _ _ _ _ _ _ (c .before .before .before .before .before .before .enum-told2 .given .1) _ _ (c .before .before .before .before .has-hints .ensures) (c .before .before .before .at32 .ensures) _ (c .before .before .enqueue .ensures)
 
 same-length-3 : tie.Need-same-length-3
 same-length-3 c = search needs
 
-returns-4 : tie.Need-returns-4
-returns-4 c = carried-fails _ _ _ _ _ _ _ _ _ _ _ _ _ _ _ (c .before .before .before .before .enum-told3 .given .1) _ (c .before .before .remove2 .ensures)
-
 same-length-4 : tie.Need-same-length-4
 same-length-4 c = search needs
+
+returns : tie.Need-returns
+returns c = carried-leaves _ _ _ _ _ _ _ _ _ _ _ _ _ _ _ (c .before .before .before .before .before .before .before .before .before .before .before .before .before .before .enum-told .given .1) _ (c .before .before .before .before .before .before .before .before .before .before .before .before .remove .ensures) _ (c .before .before .before .before .before .before .put-record .ensures)
 
 same-length-5 : tie.Need-same-length-5
 same-length-5 c = search needs
 
+returns-2 : tie.Need-returns-2
+returns-2 c = carried-splits _ _ _ _ _ _ _ _ _ _ _ _ _ _ _ (c .before .before .before .before .before .before .enum-told2 .given .1) _ _ (c .before .before .before .before .has-hints .ensures) (c .before .before .before .at32 .ensures) _ (c .before .before .enqueue .ensures)
+
 same-length-6 : tie.Need-same-length-6
 same-length-6 c = search needs
 
+returns-3 : tie.Need-returns-3
+returns-3 c = carried-fails _ _ _ _ _ _ _ _ _ _ _ _ _ _ _ (c .before .before .before .before .enum-told3 .given .1) _ (c .before .before .remove2 .ensures)
+
 same-length-7 : tie.Need-same-length-7
 same-length-7 c = search needs
-
-returns-5 : tie.Need-returns-5
-returns-5 c = carried-takes _ _ _ _ _ _ _ _ _ _ _ _ _ _ _ (c .before .before .before .before .before .before .before .before .before .before .before .before .before .enum-told4 .given .1) _ _ _ _ _ (c .before .before .before .before .before .before .before .before .settle .ensures)
 
 same-length-8 : tie.Need-same-length-8
 same-length-8 c = search needs
@@ -97,18 +88,46 @@ same-length-10 c = search needs
 same-length-11 : tie.Need-same-length-11
 same-length-11 c = search needs
 
-returns-6 : tie.Need-returns-6
-returns-6 c = carried-evicts _ _ _ _ _ _ _ _ _ _ _ _ _ _ _ (c .before .before .before .before .before .before .before .before .before .before .before .before .before .before .before .before .before .before .before .before .before .before .before .before .enum-told5 .given .1) _ _ _ _ (c .before .before .before .before .before .before .before .before .before .before .before .before .before .before .before .before .before .before .before .evict-all .ensures) _ _ _ _ _ (c .before .before .before .before .before .before .before .before .settle2 .ensures)
+same-length-12 : tie.Need-same-length-12
+same-length-12 c = search needs
+
+same-length-13 : tie.Need-same-length-13
+same-length-13 c = search needs
+
+returns-4 : tie.Need-returns-4
+returns-4 c = carried-takes _ _ _ _ _ _ _ _ _ _ _ _ _ _ _ (c .before .before .before .before .before .before .before .before .before .before .before .before .before .before .before .before .before .before .before .before .before .before .enum-told4 .given .1) _ _ _ _ _ (c .before .before .before .before .before .before .before .before .before .before .before .before .before .before .settle .ensures)
+
+same-length-14 : tie.Need-same-length-14
+same-length-14 c = search needs
+
+same-length-15 : tie.Need-same-length-15
+same-length-15 c = search needs
+
+same-length-16 : tie.Need-same-length-16
+same-length-16 c = search needs
+
+same-length-17 : tie.Need-same-length-17
+same-length-17 c = search needs
+
+same-length-18 : tie.Need-same-length-18
+same-length-18 c = c .before .before .before .before .before .before .before .before .before .before .before .before .before .before .settle2 .kept .1 .1 .1 .1 .1 .1 .1 .1 .1 .1 .1 .1 .0 ∙ c .before .before .before .before .before .before .before .before .before .before .before .before .before .before .before .before .before .before .before .before .before .before .before .before .before .before .before .before .before .before .before .before .before .before .evict-all .kept .1 .1 .1 .1 .1 .1 .1 .1 .1 .1 .0
+
+same-length-19 : tie.Need-same-length-19
+same-length-19 c = c .before .before .before .before .before .before .before .before .before .before .before .before .before .before .settle2 .kept .1 .1 .1 .1 .1 .1 .1 .1 .1 .1 .1 .1 .1 .0 ∙ c .before .before .before .before .before .before .before .before .before .before .before .before .before .before .before .before .before .before .before .before .before .before .before .before .before .before .before .before .before .before .before .before .before .before .evict-all .kept .1 .1 .1 .1 .1 .1 .1 .1 .1 .1 .1 .0
+
+same-length-20 : tie.Need-same-length-20
+same-length-20 c = c .before .before .before .before .before .before .before .before .before .before .before .before .before .before .settle2 .kept .1 .1 .1 .1 .1 .1 .1 .1 .1 .1 .1 .1 .1 .1 .0 ∙ c .before .before .before .before .before .before .before .before .before .before .before .before .before .before .before .before .before .before .before .before .before .before .before .before .before .before .before .before .before .before .before .before .before .before .evict-all .kept .1 .1 .1 .1 .1 .1 .1 .1 .1 .1 .1 .1 .0
+
+returns-5 : tie.Need-returns-5
+returns-5 c = carried-evicts _ _ _ _ _ _ _ _ _ _ _ _ _ _ _ (c .before .before .before .before .before .before .before .before .before .before .before .before .before .before .before .before .before .before .before .before .before .before .before .before .before .before .before .before .before .before .before .before .before .before .before .before .before .before .before .before .before .before .enum-told5 .given .1) _ _ _ _ (c .before .before .before .before .before .before .before .before .before .before .before .before .before .before .before .before .before .before .before .before .before .before .before .before .before .before .before .before .before .before .before .before .before .before .evict-all .ensures) _ _ _ _ _ (c .before .before .before .before .before .before .before .before .before .before .before .before .before .before .settle2 .ensures)
 
 pub carry-out-spec : {M : Type 1} → statement M
 carry-out-spec =
     tie.close
     (tie.spec
-    returns
     enum-told
     remove-requires
-    mul-all
-    array-set-from-all
+    put-record-requires
     enum-told-2
     has-hints-requires
     at32-requires
@@ -121,18 +140,27 @@ carry-out-spec =
     evict-all-requires
     settle-requires-2
     same-length
-    returns-2
     same-length-2
-    returns-3
     same-length-3
-    returns-4
     same-length-4
+    returns
     same-length-5
+    returns-2
     same-length-6
+    returns-3
     same-length-7
-    returns-5
     same-length-8
     same-length-9
     same-length-10
     same-length-11
-    returns-6)
+    same-length-12
+    same-length-13
+    returns-4
+    same-length-14
+    same-length-15
+    same-length-16
+    same-length-17
+    same-length-18
+    same-length-19
+    same-length-20
+    returns-5)

@@ -1,22 +1,21 @@
 -- The numbers below i are done, and the rest of the set from i on makes the whole.
 use borrow.Author.Needs.{needs}
-use borrow.Author.Needs.{needs}
-use native.Mathlib.Omega.{arith}
 use Prim.Native.Nat.{_-_}
-use mathlib.Core.Path.{_≡_, refl, sym, ap, _∙_}
-use lib.ListN.{length, length-set}
+use mathlib.Core.Path.{_≡_, refl, sym, _∙_}
+use lib.ListN.{length}
+use Rattle.context.specs.Slices.{lentRecords}
 use Rattle.context.proofs.CarryLaws.{EvictedTo, evict-start, evict-end, evict-pass, evict-idle, evict-one}
 use Rattle.context.proofs.carry.evict_all.Statement.{statement}
 use Rattle.context.proofs.carry.evict_all.Tie as tie
 
 abbrev Inv-loop : tie.InvT-loop
-Inv-loop maps uses sizes hint-starts segment-starts tos ends₀ rests₀ queue₀ gone all₀ i₀ ends rests queue all i = EvictedTo i gone all₀ maps uses sizes hint-starts segment-starts tos ends₀ rests₀ queue₀ all ends rests queue × (length ends ≡ length ends₀) × (length rests ≡ length rests₀) × (length queue ≡ length queue₀) × (length all ≡ 512)
+Inv-loop maps uses sizes hint-starts segment-starts tos ends₀ rests₀ queue₀ kinds₀ regs₀ held₀ gone i₀ ends rests queue kinds regs held i = EvictedTo i gone (lentRecords kinds₀ regs₀ held₀) maps uses sizes hint-starts segment-starts tos ends₀ rests₀ queue₀ (lentRecords kinds regs held) ends rests queue × (length ends ≡ length ends₀) × (length rests ≡ length rests₀) × (length queue ≡ length queue₀) × (length kinds ≡ length kinds₀) × (length regs ≡ length regs₀) × (length held ≡ length held₀)
 
 abbrev μ-loop : tie.MeasureT-loop
-μ-loop maps uses sizes hint-starts segment-starts tos ends₀ rests₀ queue₀ gone all₀ i₀ ends rests queue all i = 512 - i
+μ-loop maps uses sizes hint-starts segment-starts tos ends₀ rests₀ queue₀ kinds₀ regs₀ held₀ gone i₀ ends rests queue kinds regs held i = 512 - i
 
 loop-holds : tie.Need-loop-holds Inv-loop μ-loop
-loop-holds c = (evict-start _ _ _ _ _ _ _ _ _ _ _, refl, refl, refl, search needs)
+loop-holds c = (evict-start _ _ _ _ _ _ _ _ _ _ _, refl, refl, refl, refl, refl, refl)
 
 add-i : tie.Need-add-i Inv-loop μ-loop
 add-i c = search needs
@@ -24,11 +23,8 @@ add-i c = search needs
 array-read-if1 : tie.Need-array-read-if1 Inv-loop μ-loop
 array-read-if1 c = search needs
 
-mul-a : tie.Need-mul-a Inv-loop μ-loop
-mul-a c = search needs
-
-array-copy-out-a : tie.Need-array-copy-out-a Inv-loop μ-loop
-array-copy-out-a c = search needs
+record-at-requires : tie.Need-record-at-requires Inv-loop μ-loop
+record-at-requires c κs = search needs
 
 is-assigned-requires : tie.Need-is-assigned-requires Inv-loop μ-loop
 is-assigned-requires c κs = search needs
@@ -36,11 +32,8 @@ is-assigned-requires c κs = search needs
 flag-of-requires : tie.Need-flag-of-requires Inv-loop μ-loop
 flag-of-requires c κs = search needs
 
-mul-all : tie.Need-mul-all Inv-loop μ-loop
-mul-all c = search needs
-
-array-set-from-all : tie.Need-array-set-from-all Inv-loop μ-loop
-array-set-from-all c = search needs
+put-record-requires : tie.Need-put-record-requires Inv-loop μ-loop
+put-record-requires c κs = search needs
 
 cast-take-back : tie.Need-cast-take-back Inv-loop μ-loop
 cast-take-back c = search needs
@@ -55,19 +48,27 @@ loop-less : tie.Need-loop-less Inv-loop μ-loop
 loop-less c = search needs
 
 loop-again : tie.Need-loop-again Inv-loop μ-loop
-loop-again c = (evict-one _ _ _ _ _ _ _ _ _ _ _ _ _ _ _ _ (c .before .before .before .before .before .before .before .before .before .before .before .before .before .before .before .before .before .loop .inv .0) (c .before .before .before .before .before .before .before .before .before .before .before .before .before .before .before .before .loop-test .taken) (c .before .before .before .before .before .before .before .before .before .before .before .before .before .before .before .if1 .taken) _ _ refl _ _ (sym (c .before .before .before .before .before .before .before .before .before .before .before .before .before .is-assigned .ensures) ∙ c .before .before .before .before .before .before .before .before .before .before .before .before .if2 .taken) (c .before .before .before .before .before .before .before .before .before .before .before .flag-of .ensures) (c .before .before .before .before .before .before .before .before .before .before .reg-of .ensures) _ _ _ (c .before .before .before .before .before .before .take-back .ensures) _ refl, c .before .before .before .before .before .before .take-back .kept .1 .1 .1 .1 .1 .1 .1 .1 .0 ∙ c .before .before .before .before .before .before .before .before .before .before .before .before .before .before .before .before .before .loop .inv .1, c .before .before .before .before .before .before .take-back .kept .1 .1 .1 .1 .1 .1 .1 .1 .1 .0 ∙ c .before .before .before .before .before .before .before .before .before .before .before .before .before .before .before .before .before .loop .inv .2, c .before .before .before .before .before .before .take-back .kept .1 .1 .1 .1 .1 .1 .1 .1 .1 .1 .0 ∙ c .before .before .before .before .before .before .before .before .before .before .before .before .before .before .before .before .before .loop .inv .3, simp length-set (c .before .before .before .before .before .before .before .before .before .before .before .before .before .before .before .before .before .loop .inv .4))
+loop-again c = (
+  evict-one _ _ _ _ _ _ _ _ _ _ _ _ _ _ _ _ (c .before .before .before .before .before .before .before .before .before .before .before .before .before .before .before .before .before .before .before .before .before .before .before .before .before .before .before .before .before .before .loop .inv .0) (c .before .before .before .before .before .before .before .before .before .before .before .before .before .before .before .before .before .before .before .before .before .before .before .before .before .before .before .before .before .loop-test .taken) (c .before .before .before .before .before .before .before .before .before .before .before .before .before .before .before .before .before .before .before .before .before .before .before .before .before .before .before .before .if1 .taken) _ (c .before .before .before .before .before .before .before .before .before .before .before .before .before .before .before .before .before .before .before .before .before .before .before .before .record-at .ensures) _ _ (sym (c .before .before .before .before .before .before .before .before .before .before .before .before .before .before .before .before .before .before .before .before .before .before .before .is-assigned .ensures) ∙ c .before .before .before .before .before .before .before .before .before .before .before .before .before .before .before .before .before .before .before .before .before .before .if2 .taken) (c .before .before .before .before .before .before .before .before .before .before .before .before .before .before .before .before .before .before .before .before .before .flag-of .ensures) (c .before .before .before .before .before .before .before .before .before .before .reg-of .ensures) _ _ _ (c .before .before .before .before .before .before .take-back .ensures) _ (c .before .before .before .before .before .before .before .before .before .before .before .before .before .before .before .before .before .put-record .ensures),
+  c .before .before .before .before .before .before .take-back .kept .1 .1 .1 .1 .1 .1 .1 .1 .0 ∙ c .before .before .before .before .before .before .before .before .before .before .before .before .before .before .before .before .before .before .before .before .before .before .before .before .before .before .before .before .before .before .loop .inv .1,
+  c .before .before .before .before .before .before .take-back .kept .1 .1 .1 .1 .1 .1 .1 .1 .1 .0 ∙ c .before .before .before .before .before .before .before .before .before .before .before .before .before .before .before .before .before .before .before .before .before .before .before .before .before .before .before .before .before .before .loop .inv .2,
+  c .before .before .before .before .before .before .take-back .kept .1 .1 .1 .1 .1 .1 .1 .1 .1 .1 .0 ∙ c .before .before .before .before .before .before .before .before .before .before .before .before .before .before .before .before .before .before .before .before .before .before .before .before .before .before .before .before .before .before .loop .inv .3,
+  c .before .before .before .before .before .before .before .before .before .before .before .before .before .before .before .before .before .put-record .kept .0 ∙ c .before .before .before .before .before .before .before .before .before .before .before .before .before .before .before .before .before .before .before .before .before .before .before .before .before .before .before .before .before .before .loop .inv .4,
+  c .before .before .before .before .before .before .before .before .before .before .before .before .before .before .before .before .before .put-record .kept .1 .0 ∙ c .before .before .before .before .before .before .before .before .before .before .before .before .before .before .before .before .before .before .before .before .before .before .before .before .before .before .before .before .before .before .loop .inv .5,
+  c .before .before .before .before .before .before .before .before .before .before .before .before .before .before .before .before .before .put-record .kept .1 .1 .0 ∙ c .before .before .before .before .before .before .before .before .before .before .before .before .before .before .before .before .before .before .before .before .before .before .before .before .before .before .before .before .before .before .loop .inv .6,
+)
 
 loop-less-2 : tie.Need-loop-less-2 Inv-loop μ-loop
 loop-less-2 c = search needs
 
 loop-again-2 : tie.Need-loop-again-2 Inv-loop μ-loop
-loop-again-2 c = (evict-idle _ _ _ _ _ _ _ _ _ _ _ _ _ _ _ _ (c .before .before .before .before .before .loop .inv .0) (c .before .before .before .before .loop-test .taken) (c .before .before .before .if1 .taken) _ _ refl (sym (c .before .is-assigned .ensures) ∙ c .if2 .left), c .before .before .before .before .before .loop .inv .1, c .before .before .before .before .before .loop .inv .2, c .before .before .before .before .before .loop .inv .3, c .before .before .before .before .before .loop .inv .4)
+loop-again-2 c = (evict-idle _ _ _ _ _ _ _ _ _ _ _ _ _ _ _ _ (c .before .before .before .before .before .before .before .before .loop .inv .0) (c .before .before .before .before .before .before .before .loop-test .taken) (c .before .before .before .before .before .before .if1 .taken) _ (c .before .before .record-at .ensures) (sym (c .before .is-assigned .ensures) ∙ c .if2 .left), c .before .before .before .before .before .before .before .before .loop .inv .1, c .before .before .before .before .before .before .before .before .loop .inv .2, c .before .before .before .before .before .before .before .before .loop .inv .3, c .before .before .before .before .before .before .before .before .loop .inv .4, c .before .before .before .before .before .before .before .before .loop .inv .5, c .before .before .before .before .before .before .before .before .loop .inv .6)
 
 loop-less-3 : tie.Need-loop-less-3 Inv-loop μ-loop
 loop-less-3 c = search needs
 
 loop-again-3 : tie.Need-loop-again-3 Inv-loop μ-loop
-loop-again-3 c = (evict-pass _ _ _ _ _ _ _ _ _ _ _ _ _ _ _ _ (c .before .before .loop .inv .0) (c .before .loop-test .taken) (c .if1 .left), c .before .before .loop .inv .1, c .before .before .loop .inv .2, c .before .before .loop .inv .3, c .before .before .loop .inv .4)
+loop-again-3 c = (evict-pass _ _ _ _ _ _ _ _ _ _ _ _ _ _ _ _ (c .before .before .loop .inv .0) (c .before .loop-test .taken) (c .if1 .left), c .before .before .loop .inv .1, c .before .before .loop .inv .2, c .before .before .loop .inv .3, c .before .before .loop .inv .4, c .before .before .loop .inv .5, c .before .before .loop .inv .6)
 
 same-length : tie.Need-same-length Inv-loop μ-loop
 same-length c = c .before .loop .inv .1
@@ -77,6 +78,15 @@ same-length-2 c = c .before .loop .inv .2
 
 same-length-3 : tie.Need-same-length-3 Inv-loop μ-loop
 same-length-3 c = c .before .loop .inv .3
+
+same-length-4 : tie.Need-same-length-4 Inv-loop μ-loop
+same-length-4 c = c .before .loop .inv .4
+
+same-length-5 : tie.Need-same-length-5 Inv-loop μ-loop
+same-length-5 c = c .before .loop .inv .5
+
+same-length-6 : tie.Need-same-length-6 Inv-loop μ-loop
+same-length-6 c = c .before .loop .inv .6
 
 returns : tie.Need-returns Inv-loop μ-loop
 returns c = evict-end _ _ _ _ _ _ _ _ _ _ _ _ _ _ _ _ (c .before .loop .inv .0) (c .loop-test .left)
@@ -90,12 +100,10 @@ evict-all-spec =
     loop-holds
     add-i
     array-read-if1
-    mul-a
-    array-copy-out-a
+    record-at-requires
     is-assigned-requires
     flag-of-requires
-    mul-all
-    array-set-from-all
+    put-record-requires
     cast-take-back
     reg-of-requires
     take-back-requires
@@ -108,4 +116,7 @@ evict-all-spec =
     same-length
     same-length-2
     same-length-3
+    same-length-4
+    same-length-5
+    same-length-6
     returns)

@@ -1,131 +1,79 @@
--- The rest of the run from here is the rest of the whole.
 use borrow.Author.Needs.{needs}
-use borrow.Author.Needs.{needs}
-use native.Mathlib.Omega.{arith}
-use mathlib.Core.Path.{_≡_, refl, sym, _∙_}
-use lib.ListN.{length}
-use Rattle.context.specs.Running.{lentJob, lentState}
-use Rattle.context.proofs.RunLaws.{RunTo, run-start, run-done, run-spent, run-more, run-toomany, reads-of}
+use mathlib.Core.Path.{refl, _∙_}
+use Rattle.context.proofs.SliceLaws.{stored-all}
+use Rattle.context.proofs.RunLaws.{run-whole}
 use Rattle.context.proofs.run.run_on.Statement.{statement}
 use Rattle.context.proofs.run.run_on.Tie as tie
 
-abbrev Inv-loop : tie.InvT-loop
-Inv-loop budget maps class-starts class-regs uses classes sets spills sizes hint-starts hint-regs hint-weights segment-starts froms tos values ends₀ rests₀ queue₀ last₀ ending₀ dequeues₀ all₀ left₀ ends rests queue last ending dequeues all left = RunTo budget left (lentJob maps class-starts class-regs uses classes sets spills sizes hint-starts hint-regs hint-weights segment-starts froms tos values) all₀ (lentState ends₀ rests₀ queue₀ last₀) all (lentState ends rests queue last) × (length ends ≡ length ends₀) × (length rests ≡ length rests₀) × (length queue ≡ length queue₀) × (length last ≡ length last₀) × (length all ≡ 512)
+slice-aggregate-put-records : tie.Need-slice-aggregate-put-records
+slice-aggregate-put-records c = search needs
 
-abbrev μ-loop : tie.MeasureT-loop
-μ-loop budget maps class-starts class-regs uses classes sets spills sizes hint-starts hint-regs hint-weights segment-starts froms tos values ends₀ rests₀ queue₀ last₀ ending₀ dequeues₀ all₀ left₀ ends rests queue last ending dequeues all left = left
+slice-aggregate-put-records-2 : tie.Need-slice-aggregate-put-records-2
+slice-aggregate-put-records-2 c = search needs
 
-loop-holds : tie.Need-loop-holds Inv-loop μ-loop
-loop-holds c = (run-start _ _ _ _, refl, refl, refl, refl, search needs)
+slice-aggregate-put-records-3 : tie.Need-slice-aggregate-put-records-3
+slice-aggregate-put-records-3 c = search needs
 
-greatest-requires : tie.Need-greatest-requires Inv-loop μ-loop
-greatest-requires c κs = search needs
+put-records-requires : tie.Need-put-records-requires
+put-records-requires c κs = search needs
 
-enum-known-v : tie.Need-enum-known-v Inv-loop μ-loop
-enum-known-v c = search needs
+slice-aggregate-run-lent : tie.Need-slice-aggregate-run-lent
+slice-aggregate-run-lent c = search needs
 
-enum-told : tie.Need-enum-told Inv-loop μ-loop
-enum-told c = search needs
+slice-aggregate-run-lent-2 : tie.Need-slice-aggregate-run-lent-2
+slice-aggregate-run-lent-2 c = search needs
 
-sub-dequeues : tie.Need-sub-dequeues Inv-loop μ-loop
-sub-dequeues c = omega (arith, c .before .before .before .before .loop .inv .0 .within)
+slice-aggregate-run-lent-3 : tie.Need-slice-aggregate-run-lent-3
+slice-aggregate-run-lent-3 c = search needs
 
-same-length : tie.Need-same-length Inv-loop μ-loop
-same-length c = c .before .before .before .before .loop .inv .1
+run-lent-requires : tie.Need-run-lent-requires
+run-lent-requires c κs = search needs
 
-same-length-2 : tie.Need-same-length-2 Inv-loop μ-loop
-same-length-2 c = c .before .before .before .before .loop .inv .2
+slice-aggregate-records-in : tie.Need-slice-aggregate-records-in
+slice-aggregate-records-in c = search needs
 
-same-length-3 : tie.Need-same-length-3 Inv-loop μ-loop
-same-length-3 c = c .before .before .before .before .loop .inv .3
+slice-aggregate-records-in-2 : tie.Need-slice-aggregate-records-in-2
+slice-aggregate-records-in-2 c = search needs
 
-same-length-4 : tie.Need-same-length-4 Inv-loop μ-loop
-same-length-4 c = c .before .before .before .before .loop .inv .4
+slice-aggregate-records-in-3 : tie.Need-slice-aggregate-records-in-3
+slice-aggregate-records-in-3 c = search needs
 
-returns : tie.Need-returns Inv-loop μ-loop
-returns c = run-done _ _ _ _ _ _ _ (c .before .before .before .before .loop .inv .0) (sym (c .before .before .greatest .ensures) ∙ c .enum-told .given .1)
+records-in-requires : tie.Need-records-in-requires
+records-in-requires c κs = search needs
 
-same-length-5 : tie.Need-same-length-5 Inv-loop μ-loop
-same-length-5 c = c .before .before .before .before .before .before .loop .inv .1
+same-length : tie.Need-same-length
+same-length c = search needs
 
-same-length-6 : tie.Need-same-length-6 Inv-loop μ-loop
-same-length-6 c = c .before .before .before .before .before .before .loop .inv .2
+same-length-2 : tie.Need-same-length-2
+same-length-2 c = search needs
 
-same-length-7 : tie.Need-same-length-7 Inv-loop μ-loop
-same-length-7 c = c .before .before .before .before .before .before .loop .inv .3
+same-length-3 : tie.Need-same-length-3
+same-length-3 c = search needs
 
-same-length-8 : tie.Need-same-length-8 Inv-loop μ-loop
-same-length-8 c = c .before .before .before .before .before .before .loop .inv .4
+same-length-4 : tie.Need-same-length-4
+same-length-4 c = search needs
 
-returns-2 : tie.Need-returns-2 Inv-loop μ-loop
-returns-2 c = run-spent _ _ _ _ _ _ _ (c .before .before .before .before .before .before .loop .inv .0) _ _ (sym (c .before .before .before .before .greatest .ensures) ∙ c .before .before .v .given .1) (c .if1 .taken)
-
-sub-left : tie.Need-sub-left Inv-loop μ-loop
-sub-left c = search needs
-
-decide-requires : tie.Need-decide-requires Inv-loop μ-loop
-decide-requires c κs = search needs
-
-carry-out-requires : tie.Need-carry-out-requires Inv-loop μ-loop
-carry-out-requires c κs = search needs
-
-is-over-requires : tie.Need-is-over-requires Inv-loop μ-loop
-is-over-requires c κs = search needs
-
-sub-dequeues-2 : tie.Need-sub-dequeues-2 Inv-loop μ-loop
-sub-dequeues-2 c = omega (arith, c .before .before .before .before .before .before .before .before .before .before .before .before .before .before .before .before .before .before .before .before .before .before .before .before .before .loop .inv .0 .within)
-
-same-length-9 : tie.Need-same-length-9 Inv-loop μ-loop
-same-length-9 c = c .before .before .before .before .before .before .before .before .before .before .carry-out .kept .1 .1 .1 .1 .1 .1 .1 .1 .1 .1 .1 .0 ∙ c .before .before .before .before .before .before .before .before .before .before .before .before .before .before .before .before .before .before .before .before .before .before .before .before .before .loop .inv .1
-
-same-length-10 : tie.Need-same-length-10 Inv-loop μ-loop
-same-length-10 c = c .before .before .before .before .before .before .before .before .before .before .carry-out .kept .1 .1 .1 .1 .1 .1 .1 .1 .1 .1 .1 .1 .0 ∙ c .before .before .before .before .before .before .before .before .before .before .before .before .before .before .before .before .before .before .before .before .before .before .before .before .before .loop .inv .2
-
-same-length-11 : tie.Need-same-length-11 Inv-loop μ-loop
-same-length-11 c = c .before .before .before .before .before .before .before .before .before .before .carry-out .kept .1 .1 .1 .1 .1 .1 .1 .1 .1 .1 .1 .1 .1 .0 ∙ c .before .before .before .before .before .before .before .before .before .before .before .before .before .before .before .before .before .before .before .before .before .before .before .before .before .loop .inv .3
-
-same-length-12 : tie.Need-same-length-12 Inv-loop μ-loop
-same-length-12 c = c .before .before .before .before .before .before .before .before .before .before .carry-out .kept .1 .1 .1 .1 .1 .1 .1 .1 .1 .1 .1 .1 .1 .1 .0 ∙ c .before .before .before .before .before .before .before .before .before .before .before .before .before .before .before .before .before .before .before .before .before .before .before .before .before .loop .inv .4
-
-returns-3 : tie.Need-returns-3 Inv-loop μ-loop
-returns-3 c = run-toomany _ _ _ _ _ _ _ (c .before .before .before .before .before .before .before .before .before .before .before .before .before .before .before .before .before .before .before .before .before .before .before .before .before .loop .inv .0) _ _ (sym (c .before .before .before .before .before .before .before .before .before .before .before .before .before .before .before .before .before .before .before .before .before .before .before .greatest .ensures) ∙ c .before .before .before .before .before .before .before .before .before .before .before .before .before .before .before .before .before .before .before .before .before .v .given .1) (c .before .before .before .before .before .before .before .before .before .before .before .before .before .before .before .before .before .before .before .if1 .left) _ _ _ _ (reads-of _ _ _ _ _ _ _ _ _ _ _ _ _ _ _) (c .before .before .before .before .before .before .before .before .before .before .before .before .before .before .before .decide .ensures) (c .before .before .before .before .before .before .before .before .before .before .carry-out .ensures) (sym (c .before .is-over .ensures) ∙ c .if2 .taken)
-
-loop-less : tie.Need-loop-less Inv-loop μ-loop
-loop-less c = search needs
-
-loop-again : tie.Need-loop-again Inv-loop μ-loop
-loop-again c = (run-more _ _ _ _ _ _ _ (c .before .before .before .before .before .before .before .before .before .before .before .before .before .before .before .before .before .before .before .before .before .before .before .before .before .loop .inv .0) _ _ (sym (c .before .before .before .before .before .before .before .before .before .before .before .before .before .before .before .before .before .before .before .before .before .before .before .greatest .ensures) ∙ c .before .before .before .before .before .before .before .before .before .before .before .before .before .before .before .before .before .before .before .before .before .v .given .1) (c .before .before .before .before .before .before .before .before .before .before .before .before .before .before .before .before .before .before .before .if1 .left) _ _ _ _ (reads-of _ _ _ _ _ _ _ _ _ _ _ _ _ _ _) (c .before .before .before .before .before .before .before .before .before .before .before .before .before .before .before .decide .ensures) (c .before .before .before .before .before .before .before .before .before .before .carry-out .ensures) (sym (c .before .is-over .ensures) ∙ c .if2 .left), c .before .before .before .before .before .before .before .before .before .before .carry-out .kept .1 .1 .1 .1 .1 .1 .1 .1 .1 .1 .1 .0 ∙ c .before .before .before .before .before .before .before .before .before .before .before .before .before .before .before .before .before .before .before .before .before .before .before .before .before .loop .inv .1, c .before .before .before .before .before .before .before .before .before .before .carry-out .kept .1 .1 .1 .1 .1 .1 .1 .1 .1 .1 .1 .1 .0 ∙ c .before .before .before .before .before .before .before .before .before .before .before .before .before .before .before .before .before .before .before .before .before .before .before .before .before .loop .inv .2, c .before .before .before .before .before .before .before .before .before .before .carry-out .kept .1 .1 .1 .1 .1 .1 .1 .1 .1 .1 .1 .1 .1 .0 ∙ c .before .before .before .before .before .before .before .before .before .before .before .before .before .before .before .before .before .before .before .before .before .before .before .before .before .loop .inv .3, c .before .before .before .before .before .before .before .before .before .before .carry-out .kept .1 .1 .1 .1 .1 .1 .1 .1 .1 .1 .1 .1 .1 .1 .0 ∙ c .before .before .before .before .before .before .before .before .before .before .before .before .before .before .before .before .before .before .before .before .before .before .before .before .before .loop .inv .4, search needs)
+returns : tie.Need-returns
+returns c = run-whole _ _ _ _ _ _ _ _ _ _ (c .before .before .before .before .before .before .before .before .before .before .before .before .before .before .before .run-lent .ensures) (λ n. c .before .before .before .before .before .before .before .before .before .before .before .before .before .before .before .before .before .before .before .before .before .before .before .before .before .before .before .before .put-records .ensures ∙ stored-all _ _ _ _ refl refl refl n) (c .records-in .ensures)
 
 pub run-on-spec : {M : Type 1} → statement M
 run-on-spec =
     tie.close
     (tie.spec
-    Inv-loop
-    μ-loop
-    loop-holds
-    greatest-requires
-    enum-known-v
-    enum-told
-    sub-dequeues
+    slice-aggregate-put-records
+    slice-aggregate-put-records-2
+    slice-aggregate-put-records-3
+    put-records-requires
+    slice-aggregate-run-lent
+    slice-aggregate-run-lent-2
+    slice-aggregate-run-lent-3
+    run-lent-requires
+    slice-aggregate-records-in
+    slice-aggregate-records-in-2
+    slice-aggregate-records-in-3
+    records-in-requires
     same-length
     same-length-2
     same-length-3
     same-length-4
-    returns
-    same-length-5
-    same-length-6
-    same-length-7
-    same-length-8
-    returns-2
-    sub-left
-    decide-requires
-    carry-out-requires
-    is-over-requires
-    sub-dequeues-2
-    same-length-9
-    same-length-10
-    same-length-11
-    same-length-12
-    returns-3
-    loop-less
-    loop-again)
+    returns)
