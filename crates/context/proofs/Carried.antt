@@ -1,12 +1,12 @@
 -- A decision carried out on a state that calls reach: each fate leaves what is lent with the state that the rules give. Assumes nothing.
-use Prim.Native.Nat.{ℕ, _+_, _<_, _≤_}
+use Prim.Native.Nat.{ℕ, _+_}
 use native.Mathlib.Omega.{arith}
 use mathlib.Core.Path.{_≡_, refl, sym, ap, _∙_, subst}
 use mathlib.Core.List.{List, [], _∷_, _++_}
 use mathlib.Core.Option.{Option, none, some}
 use mathlib.Core.Bool.{Bool, true, false, not, _&&_, _||_}
 use lib.Dec.{T, ltb}
-use lib.ListN.{length, getD, set}
+use lib.ListN.{getD}
 use Rattle.reg_matrix.specs.Lists.{isSome, foldl}
 use Rattle.job.specs.Model.{Job}
 use Rattle.allocator.specs.declared.Assignment.{Assignment}
@@ -14,20 +14,18 @@ use Rattle.allocator.specs.declared.Assignment.the-variants.{Assigned as Holds,
 use Rattle.allocator.specs.declared.CandidateReg.{CandidateReg}
 use Rattle.allocator.specs.declared.Stage.{Stage}
 use Rattle.allocator.specs.declared.Stage.the-variants.{Split}
-use Rattle.allocator.specs.State.{State, heldBy, isLeftOver, flag, isUnassigned, checkOf, assignment, recordOf, records, give, lose, requeue, leave}
+use Rattle.allocator.specs.State.{State, heldBy, isLeftOver, flag, isUnassigned, assignment, recordOf, records, give, lose, requeue, leave}
 use Rattle.allocator.specs.Layout.{StateBuffers, queueWords, lastWords}
-use Rattle.allocator.specs.Calls.{named}
 use Rattle.job.proofs.Premises.{IsNumber}
 use Rattle.reg_matrix.proofs.Tests.{both}
-use Rattle.reg_matrix.proofs.Places.{from-zero}
 use Rattle.allocator.specs.Dequeue.{Decision, leaves, takes, splits, fails, decide, stateOf, evictAll, carryOut, dequeue}
 use Rattle.allocator.specs.Reached.{Reached}
 use Rattle.allocator.proofs.Runs.{evictAll-keeps}
-use Rattle.allocator.proofs.Good.{Good, Idle, Taking, good-reached, queued-idle, takes-good, reached-evict-all}
+use Rattle.allocator.proofs.Good.{Good, Idle, good-reached, queued-idle, takes-good, reached-evict-all}
 use Rattle.allocator.proofs.Records.{give-records, leave-records, requeue-records, leave-last, requeue-last}
 use Rattle.stage.proofs.ReachedSearch.{record-read}
 use Rattle.queue.specs.QueueWalk.{keyOf, setWord}
-use Rattle.context.specs.Standing.{Moves, Stands}
+use Rattle.context.specs.Standing.{Stands}
 use Rattle.context.specs.Slices.{RecordBuffers, recordBuffers, recordAt, setRecord}
 use Rattle.context.proofs.SliceLaws.{free, at-back, set-back}
 use Rattle.decisions.specs.declared.Fate.{Fate}

@@ -15,7 +15,7 @@ use Rattle.reg_matrix.specs.Lists.{count, filter, foldl, keep, padded, isSome}
 use Rattle.reg_matrix.specs.Layout.{endWords, restWords, useWords}
 use Rattle.reg_matrix.proofs.Tests.{both, not-some}
 use Rattle.lent.proofs.Laws.{any-default}
-use Rattle.reg_matrix.proofs.Places.{padded-length, padded-read, from-zero, count-length, count-append, filter-append}
+use Rattle.reg_matrix.proofs.Places.{padded-length, padded-read, count-length, count-append, filter-append}
 use Rattle.placing.specs.Moves.{words}
 use Rattle.placing.specs.Placing.{Assigned, Evicted}
 use Rattle.placing.specs.declared.Moved.{Moved}

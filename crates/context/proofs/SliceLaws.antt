@@ -4,7 +4,7 @@ use native.Mathlib.Omega.{arith}
 use native.Mathlib.Numerals.{add-one}
 use mathlib.Core.Path.{_≡_, refl, sym, ap, _∙_, subst}
 use mathlib.Core.List.{List, [], _∷_, _++_, map, append-nil}
-use mathlib.Core.Bool.{Bool, true, false}
+use mathlib.Core.Bool.{true, false}
 use lib.Ieee.{Float}
 use lib.ListN.{length, getD, set, drop, length-map, length-set, List·getD-map}
 use lib.Seq.{sets, sets-eq, drop-cons, drop-length, ext-getD}

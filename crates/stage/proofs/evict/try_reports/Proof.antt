@@ -1,6 +1,5 @@
 -- The invariant: the walk over the reports still to come, from the cost and the holders so far, finds what the whole walk finds. Assumes nothing.
 use borrow.Author.Needs.{needs}
-use Prim.Native.Nat.{_<_}
 use mathlib.Core.Path.{_≡_, refl, sym, _∙_}
 use lib.ListN.{length, length-set}
 use borrow.Author.Tests.{lt-ltb, le-ltb, not-true, not-false}
