@@ -9,6 +9,7 @@ use mathlib.Core.Bool.{Bool, true, false}
 use lib.Dec.{leb, nleb→lt}
 use lib.ListN.{length, getD, take, replicate}
 use lib.Seq.{take-at}
+use Rattle.lent.specs.Parts.{Begins}
 use Rattle.reg_matrix.specs.Lists.{padded}
 use Rattle.reg_matrix.specs.Refusals.{orThen, shortBuffer, rangesRefusal}
 use Rattle.reg_matrix.specs.Questions.{tableLimits, checkLimits, checkRefusal, orReports, checked, askCheck, isUnitFree, spareRefusal, isSpare, orSpare, askSpare}
@@ -26,7 +27,7 @@ use Rattle.allocator.proofs.Accepted.{all-pass}
 use Rattle.allocator.proofs.Good.{good-reached}
 use Rattle.stage.proofs.Reached.{asked-reports}
 use Rattle.stage.proofs.ReachedMoves.{table-stands, spare-found}
-use Rattle.context.specs.Standing.{Begins, TableStands}
+use Rattle.context.specs.Standing.{TableStands}
 use Rattle.calls.specs.Asking.{checkedOf, sparedOf, checkSizes}
 
 -- neither of two tests refuses

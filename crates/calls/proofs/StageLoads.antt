@@ -11,6 +11,7 @@ use lib.Dec.{T, ltb}
 use lib.ListN.{length, take, drop, getD, replicate, length-map, length-append, length-replicate}
 use lib.Seq.{sets, sets-eq, drop-append-seam}
 use borrow.Author.Tests.{lt-ltb, le-ltb}
+use Rattle.lent.specs.Parts.{Begins}
 use Rattle.reg_matrix.specs.Lists.{count, padded, concatMap, _∈_}
 use Rattle.reg_matrix.specs.Refusals.{shortBuffer}
 use Rattle.reg_matrix.specs.Layout.{maxEntries, endWords, restWords}
@@ -35,7 +36,7 @@ use Rattle.loader.specs.Loading as loading
 use Rattle.loader.specs.Loading.{Lent, lent, later, LoadParts, LoadDone}
 use Rattle.queue.specs.QueueWalk.{firstWord, filled}
 use Rattle.stage.proofs.QueueLaws.{fresh-tournament}
-use Rattle.context.specs.Standing.{Begins, JobStands, Stands}
+use Rattle.context.specs.Standing.{JobStands, Stands}
 use Rattle.context.proofs.CarryLaws.{begins-take}
 use Rattle.context.specs.Running.{lentState}
 use Rattle.calls.specs.Calling.{sizesOf, StateStands}

@@ -11,6 +11,7 @@ use lib.Dec.{T, ltb}
 use lib.Ieee.{Float}
 use lib.ListN.{length, getD, set, take, drop, length-map, length-set, List·getD-map}
 use lib.Seq.{take-at, drop-at, ext-getD, set-append-left, getD-set-same, getD-set-other}
+use Rattle.lent.specs.Parts.{Begins}
 use Rattle.reg_matrix.specs.Lists.{count, filter, foldl, keep, padded, isSome}
 use Rattle.reg_matrix.specs.Layout.{endWords, restWords, useWords}
 use Rattle.reg_matrix.proofs.Tests.{both, not-some}
@@ -42,7 +43,7 @@ use Rattle.allocator.proofs.Records.{assigned-held, not-assigned, holder-stays,
 use Rattle.queue.specs.QueueWalk.{keyOf, setWord}
 use Rattle.stage.proofs.QueueLaws.{tournament-length, set-tournament, key-is, size-at, has-hints}
 use Rattle.stage.proofs.ReachedMoves.{table-stands, uses-lie, assign-gives, evict-loses, evict-held, evict-nothing, evictMarked, marked-yes, marked-no, marked-end}
-use Rattle.context.specs.Standing.{Begins, TableStands, Moves, Stands}
+use Rattle.context.specs.Standing.{TableStands, Moves, Stands}
 use Rattle.context.specs.Slices.{RecordBuffers, recordBuffers, recordAt, setRecord}
 use Rattle.context.proofs.SliceLaws.{free, at-back, set-back}
 use Rattle.stage.proofs.ReachedSearch.{record-read}

@@ -7,6 +7,7 @@ use mathlib.Core.Option.{Option, some, none}
 use mathlib.Core.Bool.{Bool}
 use lib.Dec.{T}
 use lib.ListN.{length, getD}
+use Rattle.lent.specs.Parts.{Begins}
 use Rattle.job.specs.Model.{Job}
 use Rattle.job.specs.Layout.{jobBuffers}
 use Rattle.allocator.specs.declared.CandidateReg.{CandidateReg}
@@ -16,7 +17,7 @@ use Rattle.allocator.specs.Dequeue.{decide, stateOf, evictAll, dequeue}
 use Rattle.allocator.specs.Layout.{StateBuffers}
 use Rattle.allocator.specs.Calls.{named}
 use Rattle.allocator.specs.Reached.{Reached}
-use Rattle.context.specs.Standing.{Begins, Moves, Stands}
+use Rattle.context.specs.Standing.{Moves, Stands}
 use Rattle.context.specs.Slices.{RecordBuffers, recordBuffers}
 use Rattle.decisions.specs.declared.Decided.{Decided}
 use Rattle.decisions.specs.Deciding.{members, decisionOf}

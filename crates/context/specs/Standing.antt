@@ -3,16 +3,12 @@
 use Prim.Native.Nat.{ℕ}
 use mathlib.Core.Path.{_≡_}
 use mathlib.Core.List.{List, _++_}
+use Rattle.lent.specs.Parts.{Begins}
 use Rattle.reg_matrix.specs.Layout.{endWords, restWords}
 use Rattle.job.specs.Model.{Job}
 use Rattle.job.specs.Layout.{JobBuffers, jobBuffers}
 use Rattle.allocator.specs.State.{State}
 use Rattle.allocator.specs.Layout.{StateBuffers, queueWords, lastWords}
-
-module _ {A : Type 0} where
-  -- ys begins with xs
-  abbrev pub Begins : List A → List A → Type 0
-  Begins xs ys = (t : List A) × (ys ≡ xs ++ t)
 
 -- the job's buffers that a decision reads: all but the sizes
 pub record JobReads (j : Job) (B : JobBuffers) : Type 0 where

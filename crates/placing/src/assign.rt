@@ -9,13 +9,13 @@ ghost use mathlib.Core.List.{[], _∷_};
 ghost use Rattle.reg_matrix.specs.Refusals.{shortBuffer};
 ghost use Rattle.placing.specs.Placing.{moveLimits, Assigned, Evicted};
 use crate::Moved;
-use matrix::search::find;
-use matrix::search::search;
 use crate::table::insert;
 use crate::table::remove;
 use crate::table::remove_run;
 use lent::at;
 use lent::at32;
+use matrix::search::find;
+use matrix::search::search;
 
 // a - b, or 0 where b is greater.
 fn minus(a: usize, b: usize) -> usize

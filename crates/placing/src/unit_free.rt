@@ -7,8 +7,8 @@ ghost use Rattle.placing.specs.Moves.{words};
 ghost use Rattle.reg_matrix.specs.Questions.{spareRefusal};
 ghost use Rattle.placing.specs.Placing.{freeAt, range, spareAnswer};
 use crate::UnitFree;
-use matrix::search::find;
 use lent::at;
+use matrix::search::find;
 
 // Whether the unit's first entry that ends past `from`, if there is one, starts past `to`.
 fn free_at(ends: &[u64], rests: &[u64], unit: u8, from: u32, to: u32) -> bool

@@ -10,6 +10,7 @@ use lib.Dec.{ltb}
 use lib.ListN.{length, drop, getD, replicate, length-drop, length-map, length-append, length-replicate, List·getD-eq-default}
 use lib.Seq.{sets, sets-eq}
 use borrow.Author.Tests.{lt-ltb, le-ltb}
+use Rattle.lent.specs.Parts.{Begins}
 use Rattle.reg_matrix.specs.Lists.{count, padded}
 use Rattle.reg_matrix.specs.Lines.{refusedLine}
 use Rattle.reg_matrix.specs.Refusals.{refusal, shortBuffer}
@@ -35,7 +36,7 @@ use Rattle.allocator.proofs.Good.{good-reached, reached-fresh, reached-run}
 use Rattle.loader.specs.declared.load.JobLoaded.{JobLoaded}
 use Rattle.loader.specs.declared.load.JobLoaded.the-variants.{Is, Refused as NotLoaded}
 use Rattle.stage.proofs.QueueLaws.{tournament-length}
-use Rattle.context.specs.Standing.{Begins, JobStands, Stands}
+use Rattle.context.specs.Standing.{JobStands, Stands}
 use Rattle.context.specs.Running.{lentState, endingNumber}
 use Rattle.calls.specs.Calling.{sizesOf, StateStands, refusalNumber, RunCalled}
 use Rattle.calls.specs.StageLoading.{laterState, laterJob, StageLoadParts, StageLoadDone, firstRecords}

@@ -8,11 +8,11 @@ use crate::Fields;
 use lent::part16;
 use lent::part32;
 use matrix::Cursor;
-use placing::Moved;
 use matrix::Start;
 use matrix::Step;
-use placing::assign;
 use matrix::check;
+use placing::Moved;
+use placing::assign;
 
 // The check of segments that are taken apart.
 pub fn check_fields(
