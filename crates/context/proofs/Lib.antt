@@ -3,4 +3,3 @@ pub mod SliceLaws
 pub mod CarryLaws
 pub mod Decision
 pub mod Carried
-pub mod RunLaws

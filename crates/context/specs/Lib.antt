@@ -1,4 +1,3 @@
 pub mod Standing
 pub mod Slices
 pub mod Carrying
-pub mod Running

@@ -1,5 +1,4 @@
-// The stage as a whole (`allocator/mod.rs`): what a dequeue decided is carried out, runs, direct placements and evictions. It is lent the job's
-// slices as loading leaves them, the table's two, the queue and the last registers. The 512 records go by value to a run and from it; in between they stand in three slices.
+// A dequeue carried out (`allocator/mod.rs`): over the job's lists as loading leaves them, the table's two slices, the queue and the last registers,
+// with the records in three slices.
 pub mod carry;
-pub mod run;
 pub mod slices;

@@ -1,12 +1,12 @@
 // A run with a budget (`Allocator::run`): dequeues, the greatest key first, until nobody waits, the budget is spent, or too many are live.
 ghost use mathlib.Core.Path.{_≡_};
 ghost use Rattle.context.specs.Slices.{lentRecords};
-ghost use Rattle.context.specs.Running.{RunMade, RunDone, lentJob, lentState, isFails};
-use crate::carry::carry_out;
-use crate::slices::put_records;
-use crate::slices::record_at;
-use crate::slices::records_in;
+ghost use Rattle.runs.specs.Running.{RunMade, RunDone, lentJob, lentState, isFails};
 use allocator::Assignment;
+use context::carry::carry_out;
+use context::slices::put_records;
+use context::slices::record_at;
+use context::slices::records_in;
 use decisions::Decided;
 use decisions::Fate;
 use decisions::decide;

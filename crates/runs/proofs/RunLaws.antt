@@ -27,16 +27,16 @@ use Rattle.queue.specs.QueueWalk.{decoded, nextNumber}
 use Rattle.queue.specs.declared.Next.{Next}
 use Rattle.queue.specs.declared.Next.the-variants.{Nobody, Number}
 use Rattle.stage.proofs.QueueLaws.{tournament-length, greatest-next}
 use Rattle.context.specs.Standing.{JobReads, JobStands, Stands}
 use Rattle.context.specs.Slices.{RecordBuffers, recordBuffers, recordAt, recordsIn}
 use Rattle.context.proofs.SliceLaws.{records-length, records-back}
 use Rattle.decisions.specs.declared.Fate.{Fate}
 use Rattle.decisions.specs.declared.Fate.the-variants.{Leaves, Takes, Evicts, Splits, Fails}
 use Rattle.decisions.specs.declared.Decided.{Decided}
 use Rattle.decisions.specs.Deciding.{decisionBy, decisionOf, classIn, decidedIn, reading, flagIn}
 use Rattle.context.specs.Carrying.{EvictReads, TakeReads, CarriedOut}
-use Rattle.context.specs.Running.{lentJob, lentState, isFails, endingNumber, RunMade, RunDone}
+use Rattle.runs.specs.Running.{lentJob, lentState, isFails, endingNumber, RunMade, RunDone}
 use Rattle.context.proofs.Decision.{decision-is}
 
 -- ---- the rules' run, one dequeue at a time
 
