@@ -11,6 +11,7 @@ use lent::put_float;
 use lent::put8;
 use stage::evict::held_weight;
 
+// One of two numbers, by a flag.
 fn by_flag(flag: bool, on: u8, off: u8) -> u8
     ensures { λ r. ⌜ r ≡ cond flag on off ⌝ }
 {
