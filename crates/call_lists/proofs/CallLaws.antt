@@ -20,7 +20,7 @@ use Rattle.allocator.specs.State.{State, isUnassigned, checkOf}
 use Rattle.allocator.specs.Layout.{StateBuffers, stageLimits}
 use Rattle.allocator.specs.Run.{run}
 use Rattle.allocator.specs.Calls.{placing, evicting, running, unknownNumber, named, badWeight, refusalOf, accepted, orRefused, answerOf}
-use Rattle.runs.specs.Running.{endingNumber}
+use Rattle.run_loop.specs.Running.{endingNumber}
 use Rattle.calls.specs.Calling.{refusalNumber, valueNumber, sizesOf, Placed, Evicted, RunCalled}
 use Rattle.call_lists.specs.Listed.{capped, callOf, wordNumber, CallAnswered}
 

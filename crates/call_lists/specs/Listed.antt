@@ -18,7 +18,7 @@ use Rattle.allocator.specs.Layout.{StateBuffers}
 use Rattle.allocator.specs.Calls.{Call, placing, evicting, running, Answer, refused, placed, evicted, ended, answerOf, after, answers}
 use Rattle.allocator.specs.Reached.{Reached}
 use Rattle.context.specs.Standing.{JobStands}
-use Rattle.runs.specs.Running.{endingNumber}
+use Rattle.run_loop.specs.Running.{endingNumber}
 use Rattle.calls.specs.Calling.{refusalNumber, valueNumber, sizesOf, StateStands, Called}
 use Rattle.calls.specs.Trace.{Trace}
 

@@ -6,7 +6,7 @@ ghost use Prim.Native.Nat.{_+_, _<_};
 ghost use lib.Dec.{eqb};
 ghost use lib.ListN.{getD, drop};
 ghost use Rattle.job.specs.Layout.{slices};
-ghost use Rattle.runs.specs.Running.{lentState};
+ghost use Rattle.run_loop.specs.Running.{lentState};
 ghost use Rattle.calls.specs.Calling.{sizesOf};
 ghost use Rattle.call_lists.specs.Listed.{capped, callOf, hasCall, CallAnswered, CallStored, ListDone, ListCarriedOut};
 use allocator::Assignment;

@@ -15,7 +15,7 @@ use Rattle.allocator.specs.State.{State}
 use Rattle.allocator.specs.Layout.{StateBuffers, stageLimits}
 use Rattle.allocator.specs.Run.{run}
 use Rattle.allocator.specs.Calls.{running, refusalOf, unlessRefused, carriedOut, after, orRefused, answerOf}
-use Rattle.runs.specs.Running.{lentJob, RunDone}
+use Rattle.run_loop.specs.Running.{lentJob, RunDone}
 use Rattle.calls.specs.Calling.{sizesOf, refusalNumber, Called, RunCalled}
 
 -- the lists that the code takes from the slices are those of the job

@@ -38,7 +38,7 @@ use Rattle.queue.specs.QueueWalk.{firstWord, filled}
 use Rattle.stage.proofs.QueueLaws.{fresh-tournament}
 use Rattle.context.specs.Standing.{JobStands, Stands}
 use Rattle.context.proofs.CarryLaws.{begins-take}
-use Rattle.runs.specs.Running.{lentState}
+use Rattle.run_loop.specs.Running.{lentState}
 use Rattle.calls.specs.Calling.{sizesOf, StateStands}
 use Rattle.calls.specs.StageLoading.{laterState, laterJob, StageLoadParts, StageLoadDone, firstRecords}
 use Rattle.calls.specs.Trace.{JustLoaded}

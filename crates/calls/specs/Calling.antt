@@ -20,7 +20,7 @@ use Rattle.allocator.specs.Reached.{Reached}
 use Rattle.allocator.specs.Run.{run}
 use Rattle.decisions.specs.Deciding.{flagIn, regIn}
 use Rattle.context.specs.Standing.{JobStands, Stands}
-use Rattle.runs.specs.Running.{endingNumber}
+use Rattle.run_loop.specs.Running.{endingNumber}
 use Rattle.calls.specs.Testing.{namedTo, unknownIn, clearTo, placeTests, evictTests}
 
 -- ---- an answer in numbers

@@ -5,7 +5,7 @@ ghost use lib.Ieee.{binary32, ofBits};
 ghost use lib.ListN.{getD, set};
 ghost use Rattle.allocator.specs.declared.Assignment.the-variants.{Dead};
 ghost use Rattle.job.specs.Layout.{slices};
-ghost use Rattle.runs.specs.Running.{lentState};
+ghost use Rattle.run_loop.specs.Running.{lentState};
 ghost use Rattle.calls.specs.Calling.{placeAnswer, Placed, Evicted};
 use crate::refusals::evict_refusal;
 use crate::refusals::place_refusal;

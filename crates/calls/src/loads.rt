@@ -1,7 +1,7 @@
 // Loading a stage: the job, its table, the queue and the last registers, and the records as they start out.
 ghost use mathlib.Core.Path.{_≡_};
 ghost use Rattle.job.specs.Layout.{slices};
-ghost use Rattle.runs.specs.Running.{lentState};
+ghost use Rattle.run_loop.specs.Running.{lentState};
 ghost use Rattle.calls.specs.StageLoading.{StageLoadDone, firstRecords};
 use allocator::Assignment;
 use job::HINT_STARTS;

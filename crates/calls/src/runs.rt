@@ -1,7 +1,7 @@
 // A run as a call of its own: `Allocator::run` (`allocator/mod.rs`), with a budget.
 ghost use mathlib.Core.Path.{_≡_};
 ghost use Rattle.job.specs.Layout.{slices};
-ghost use Rattle.runs.specs.Running.{lentState};
+ghost use Rattle.run_loop.specs.Running.{lentState};
 ghost use Rattle.calls.specs.Calling.{RunCalled};
 use crate::refusals::short_buffers;
 use allocator::Assignment;
@@ -20,7 +20,7 @@ use lent::from_float;
 use lent::from8;
 use lent::from16;
 use lent::from32;
-use runs::run_on;
+use run_loop::run_on;
 
 // Runs with a budget. The answer is 0, or 15 where a buffer is short, and then nothing is changed. `ending` takes the word's number, 1 for done, 2
 // for spent and 3 for toomany, and `dequeues` how many were made; both are 0 where the run is refused. What returns is the records afterwards.

@@ -27,7 +27,7 @@ use Rattle.allocator.specs.Reached.{Reached}
 use Rattle.allocator.specs.Run.{run}
 use Rattle.allocator.proofs.Good.{good-reached, reached-after}
 use Rattle.context.specs.Standing.{JobStands}
-use Rattle.runs.specs.Running.{endingNumber}
+use Rattle.run_loop.specs.Running.{endingNumber}
 use Rattle.calls.specs.Calling as calling
 use Rattle.calls.specs.Calling.{sizesOf, refusalNumber, StateStands}
 use Rattle.records.specs.Words.{recordWord, recordsIn, PlainRecord, AllPlain}

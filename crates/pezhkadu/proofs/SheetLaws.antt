@@ -24,7 +24,7 @@ use Rattle.allocator.specs.State.{State, recordOf, records}
 use Rattle.allocator.specs.Reached.{Reached}
 use Rattle.allocator.specs.Sheet.{sheet}
 use Rattle.allocator.proofs.Good.{good-reached}
-use Rattle.runs.specs.Running.{endingNumber}
+use Rattle.run_loop.specs.Running.{endingNumber}
 use Rattle.listing.specs.declared.Listing.{Listing}
 use Rattle.listing.specs.declared.Place.{Place}
 use Rattle.listing.specs.declared.Place.the-variants.{Head, VirtReg, Entry, End}

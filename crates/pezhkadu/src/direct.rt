@@ -2,7 +2,7 @@
 ghost use mathlib.Core.Path.{_≡_};
 ghost use lib.Ieee.{binary32, ofBits};
 ghost use Rattle.job.specs.Layout.{slices};
-ghost use Rattle.runs.specs.Running.{lentState};
+ghost use Rattle.run_loop.specs.Running.{lentState};
 ghost use Rattle.allocator.specs.Calls.{placing};
 ghost use Rattle.calls.specs.Calling.{sizesOf};
 ghost use Rattle.pezhkadu.specs.Calling.{Called, assignShort, EvictCalled};

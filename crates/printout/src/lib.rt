@@ -3,7 +3,7 @@ ghost use mathlib.Core.Path.{_≡_};
 ghost use Prim.Native.Nat.{_+_, _≤_, _<_};
 ghost use lib.ListN.{length};
 ghost use Rattle.job.specs.Layout.{slices};
-ghost use Rattle.runs.specs.Running.{lentState};
+ghost use Rattle.run_loop.specs.Running.{lentState};
 ghost use Rattle.listing.specs.Texts.{Appended};
 ghost use Rattle.listing.specs.Walk.{lent};
 ghost use Rattle.printout.specs.Whole.{isLine, sizeOf, afterOf, LinesPrinted, Printed};

@@ -37,7 +37,7 @@ use Rattle.loader.specs.declared.load.JobLoaded.{JobLoaded}
 use Rattle.loader.specs.declared.load.JobLoaded.the-variants.{Is, Refused as NotLoaded}
 use Rattle.stage.proofs.QueueLaws.{tournament-length}
 use Rattle.context.specs.Standing.{JobStands, Stands}
-use Rattle.runs.specs.Running.{lentState, endingNumber}
+use Rattle.run_loop.specs.Running.{lentState, endingNumber}
 use Rattle.calls.specs.Calling.{sizesOf, StateStands, refusalNumber, RunCalled}
 use Rattle.calls.specs.StageLoading.{laterState, laterJob, StageLoadParts, StageLoadDone, firstRecords}
 use Rattle.calls.proofs.StageLoads.{append-short, behindState, laid-state, laid-job, same-header, records-first}

@@ -1,7 +1,7 @@
 // A job's bytes loaded and run with the job's budget, and the lines of its sheet one by one.
 ghost use mathlib.Core.Path.{_≡_};
 ghost use Rattle.job.specs.Layout.{slices};
-ghost use Rattle.runs.specs.Running.{lentState};
+ghost use Rattle.run_loop.specs.Running.{lentState};
 ghost use Rattle.listing.specs.Walk.{lent};
 ghost use Rattle.sheets.specs.Printing.{endingOf, RunStored, Begun, NextLine};
 use crate::Printing;

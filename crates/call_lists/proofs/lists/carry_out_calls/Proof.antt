@@ -5,7 +5,7 @@ use Prim.Native.Nat.{_-_, _<_}
 use mathlib.Core.Path.{_≡_, refl, sym, _∙_}
 use lib.ListN.{length}
 use Rattle.job.specs.Layout.{slices}
-use Rattle.runs.specs.Running.{lentState}
+use Rattle.run_loop.specs.Running.{lentState}
 use Rattle.call_lists.proofs.ListLaws as laws
 use Rattle.call_lists.proofs.lists.carry_out_calls.Statement.{statement}
 use Rattle.call_lists.proofs.lists.carry_out_calls.Tie as tie

@@ -5,10 +5,10 @@ use mathlib.Core.Path.{_≡_, refl, sym, ap, _∙_}
 use lib.ListN.{length}
 use Rattle.decisions.specs.Deciding.{flagIn}
 use Rattle.context.specs.Slices.{lentRecords}
-use Rattle.runs.specs.Running.{lentJob, lentState}
-use Rattle.runs.proofs.RunLaws.{RunTo, run-start, run-done, run-spent, run-more, run-toomany, reads-of}
-use Rattle.runs.proofs.run_lent.Statement.{statement}
-use Rattle.runs.proofs.run_lent.Tie as tie
+use Rattle.run_loop.specs.Running.{lentJob, lentState}
+use Rattle.run_loop.proofs.RunLaws.{RunTo, run-start, run-done, run-spent, run-more, run-toomany, reads-of}
+use Rattle.run_loop.proofs.run_lent.Statement.{statement}
+use Rattle.run_loop.proofs.run_lent.Tie as tie
 
 abbrev Inv-loop : tie.InvT-loop
 Inv-loop budget maps class-starts class-regs uses classes sets spills sizes hint-starts hint-regs hint-weights segment-starts froms tos values ends₀ rests₀ queue₀ last₀ kinds₀ regs₀ held₀ ending₀ dequeues₀ left₀ ends rests queue last kinds regs held ending dequeues left = RunTo budget left (lentJob maps class-starts class-regs uses classes sets spills sizes hint-starts hint-regs hint-weights segment-starts froms tos values) (lentRecords kinds₀ regs₀ held₀) (lentState ends₀ rests₀ queue₀ last₀) (lentRecords kinds regs held) (lentState ends rests queue last) × (length ends ≡ length ends₀) × (length rests ≡ length rests₀) × (length queue ≡ length queue₀) × (length last ≡ length last₀) × (length kinds ≡ length kinds₀) × (length regs ≡ length regs₀) × (length held ≡ length held₀)

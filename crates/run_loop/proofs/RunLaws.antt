@@ -35,7 +35,7 @@ use Rattle.decisions.specs.declared.Fate.the-variants.{Leaves, Takes, Evicts, S
 use Rattle.decisions.specs.declared.Decided.{Decided}
 use Rattle.decisions.specs.Deciding.{decisionBy, decisionOf, classIn, decidedIn, reading, flagIn}
 use Rattle.context.specs.Carrying.{EvictReads, TakeReads, CarriedOut}
-use Rattle.runs.specs.Running.{lentJob, lentState, isFails, endingNumber, RunMade, RunDone}
+use Rattle.run_loop.specs.Running.{lentJob, lentState, isFails, endingNumber, RunMade, RunDone}
 use Rattle.context.proofs.Decision.{decision-is}
 
 -- ---- the rules' run, one dequeue at a time

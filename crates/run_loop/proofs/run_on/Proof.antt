@@ -1,9 +1,9 @@
 use borrow.Author.Needs.{needs}
 use mathlib.Core.Path.{refl, _∙_}
 use Rattle.context.proofs.SliceLaws.{stored-all}
-use Rattle.runs.proofs.RunLaws.{run-whole}
-use Rattle.runs.proofs.run_on.Statement.{statement}
-use Rattle.runs.proofs.run_on.Tie as tie
+use Rattle.run_loop.proofs.RunLaws.{run-whole}
+use Rattle.run_loop.proofs.run_on.Statement.{statement}
+use Rattle.run_loop.proofs.run_on.Tie as tie
 
 slice-aggregate-put-records : tie.Need-slice-aggregate-put-records
 slice-aggregate-put-records c = search needs

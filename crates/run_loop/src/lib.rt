@@ -1,7 +1,7 @@
 // A run with a budget (`Allocator::run`): dequeues, the greatest key first, until nobody waits, the budget is spent, or too many are live.
 ghost use mathlib.Core.Path.{_≡_};
 ghost use Rattle.context.specs.Slices.{lentRecords};
-ghost use Rattle.runs.specs.Running.{RunMade, RunDone, lentJob, lentState, isFails};
+ghost use Rattle.run_loop.specs.Running.{RunMade, RunDone, lentJob, lentState, isFails};
 use allocator::Assignment;
 use context::carry::carry_out;
 use context::slices::put_records;
