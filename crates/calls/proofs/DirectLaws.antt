@@ -32,10 +32,10 @@ use Rattle.stage.proofs.ReachedMoves.{evict-held}
 use Rattle.decisions.specs.Deciding.{flagIn, regIn}
 use Rattle.context.specs.Standing.{JobStands}
 use Rattle.context.specs.Carrying.{Taken, TakenBack}
-use Rattle.calls.specs.Testing.{clearTo, placeTests, evictTests}
+use Rattle.call_tests.specs.Testing.{clearTo, placeTests, evictTests}
 use Rattle.run_loop.specs.Running.{lentState}
 use Rattle.calls.specs.Calling.{refusalNumber, valueNumber, sizesOf, StateStands, unknownTo, placeAnswer, evictAnswer, Placed, Evicted}
-use Rattle.calls.proofs.RefusalLaws.{none-placing, none-evicting, named-read, clear-read, held-is, placing-tests, evicting-tests, refused-first}
+use Rattle.call_tests.proofs.RefusalLaws.{none-placing, none-evicting, named-read, clear-read, held-is, placing-tests, evicting-tests, refused-first}
 
 -- ---- any call
 

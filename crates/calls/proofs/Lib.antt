@@ -1,4 +1,3 @@
-pub mod RefusalLaws
 pub mod DirectLaws
 pub mod Traces
 pub mod RunCalls

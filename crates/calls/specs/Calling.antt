@@ -21,7 +21,7 @@ use Rattle.allocator.specs.Run.{run}
 use Rattle.decisions.specs.Deciding.{flagIn, regIn}
 use Rattle.context.specs.Standing.{JobStands, Stands}
 use Rattle.run_loop.specs.Running.{endingNumber}
-use Rattle.calls.specs.Testing.{namedTo, unknownIn, clearTo, placeTests, evictTests}
+use Rattle.call_tests.specs.Testing.{namedTo, unknownIn, clearTo, placeTests, evictTests}
 
 -- ---- an answer in numbers
 

@@ -2,5 +2,4 @@
 // and changes nothing.
 pub mod direct;
 pub mod loads;
-pub mod refusals;
 pub mod runs;

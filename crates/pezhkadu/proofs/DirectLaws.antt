@@ -23,10 +23,10 @@ use Rattle.allocator.specs.Layout.{StateBuffers, stageLimits}
 use Rattle.allocator.specs.Calls.{Call, placing, evicting, named, refusalOf, unlessRefused, carriedOut, after, orRefused, accepted, answerOf}
 use Rattle.allocator.specs.Reached.{Reached}
 use Rattle.allocator.proofs.Good.{Good, good-reached}
-use Rattle.calls.specs.Testing.{unknownIn, placeTests, evictTests}
+use Rattle.call_tests.specs.Testing.{unknownIn, placeTests, evictTests}
 use Rattle.calls.specs.Calling as calling
 use Rattle.calls.specs.Calling.{sizesOf, refusalNumber, valueNumber, StateStands}
-use Rattle.calls.proofs.RefusalLaws.{placing-tests, evicting-tests}
+use Rattle.call_tests.proofs.RefusalLaws.{placing-tests, evicting-tests}
 use Rattle.records.specs.Words.{recordWord, recordsIn, AllPlain}
 use Rattle.pezhkadu.specs.Words.{headerIn, cut}
 use Rattle.pezhkadu.specs.Calling.{Called, assignShort, evictShort, EvictCalled}

@@ -8,7 +8,7 @@ ghost use Rattle.reg_matrix.specs.Refusals.{refusal, shortBuffer};
 ghost use Rattle.matrix.specs.Walk.{refusalNumber as numberOf};
 ghost use Rattle.allocator.specs.Layout.{stageLimits};
 ghost use Rattle.job.specs.Layout.{slices};
-ghost use Rattle.calls.specs.Testing.{isFree, hintedAt, namedIn, namedTo, unknownIn, clearTo, placeTests, evictTests};
+ghost use Rattle.call_tests.specs.Testing.{isFree, hintedAt, namedIn, namedTo, unknownIn, clearTo, placeTests, evictTests};
 use allocator::Assignment;
 use context::carry::is_assigned;
 use decisions::parts::of8;

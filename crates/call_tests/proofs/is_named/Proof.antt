@@ -1,7 +1,7 @@
 use borrow.Author.Needs.{needs}
-use Rattle.calls.proofs.RefusalLaws.{named-class, named-sets}
-use Rattle.calls.proofs.refusals.is_named.Statement.{statement}
-use Rattle.calls.proofs.refusals.is_named.Tie as tie
+use Rattle.call_tests.proofs.RefusalLaws.{named-class, named-sets}
+use Rattle.call_tests.proofs.is_named.Statement.{statement}
+use Rattle.call_tests.proofs.is_named.Tie as tie
 
 at8-requires : tie.Need-at8-requires
 at8-requires c κs = search needs

@@ -41,7 +41,7 @@ use Rattle.decisions.specs.Deciding.{shareOf, lentTo, classIn, isHeld, regIn}
 use Rattle.context.specs.Standing.{JobReads, TableStands}
 use Rattle.context.proofs.Shares.{hint-regs-share}
 use Rattle.context.proofs.Decision.{field-read, laid-out, search-lent, class-is}
-use Rattle.calls.specs.Testing.{isFree, hintedAt, namedIn, unknownIn, clearAt, placeTests, evictTests}
+use Rattle.call_tests.specs.Testing.{isFree, hintedAt, namedIn, unknownIn, clearAt, placeTests, evictTests}
 
 -- ---- lists of tests
 

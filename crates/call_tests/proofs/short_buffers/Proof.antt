@@ -1,7 +1,7 @@
 use borrow.Author.Needs.{needs}
 use Rattle.reg_matrix.specs.Refusals.{shortBuffer}
-use Rattle.calls.proofs.refusals.short_buffers.Statement.{statement}
-use Rattle.calls.proofs.refusals.short_buffers.Tie as tie
+use Rattle.call_tests.proofs.short_buffers.Statement.{statement}
+use Rattle.call_tests.proofs.short_buffers.Tie as tie
 
 or-short-requires : tie.Need-or-short-requires
 or-short-requires c κs = search needs

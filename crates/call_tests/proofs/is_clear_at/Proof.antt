@@ -1,8 +1,8 @@
 use borrow.Author.Needs.{needs}
 use mathlib.Core.Path.{_∙_}
-use Rattle.calls.specs.Testing.{clearAt}
-use Rattle.calls.proofs.refusals.is_clear_at.Statement.{statement}
-use Rattle.calls.proofs.refusals.is_clear_at.Tie as tie
+use Rattle.call_tests.specs.Testing.{clearAt}
+use Rattle.call_tests.proofs.is_clear_at.Statement.{statement}
+use Rattle.call_tests.proofs.is_clear_at.Tie as tie
 
 at-requires : tie.Need-at-requires
 at-requires c κs = search needs

@@ -1,9 +1,9 @@
 use borrow.Author.Needs.{needs}
 use borrow.Author.Tests.{eq-eqb, ne-eqb}
 use mathlib.Core.Path.{_∙_}
-use Rattle.calls.proofs.RefusalLaws.{has-all}
-use Rattle.calls.proofs.refusals.hint_names.Statement.{statement}
-use Rattle.calls.proofs.refusals.hint_names.Tie as tie
+use Rattle.call_tests.proofs.RefusalLaws.{has-all}
+use Rattle.call_tests.proofs.hint_names.Statement.{statement}
+use Rattle.call_tests.proofs.hint_names.Tie as tie
 
 at16-requires : tie.Need-at16-requires
 at16-requires c κs = search needs

@@ -1,7 +1,7 @@
 use borrow.Author.Needs.{needs}
 use borrow.Author.Tests.{le-leb, lt-leb}
-use Rattle.calls.proofs.refusals.is_unknown.Statement.{statement}
-use Rattle.calls.proofs.refusals.is_unknown.Tie as tie
+use Rattle.call_tests.proofs.is_unknown.Statement.{statement}
+use Rattle.call_tests.proofs.is_unknown.Tie as tie
 
 returns : tie.Need-returns
 returns c = rw (le-leb _ _ (c .if1 .taken))

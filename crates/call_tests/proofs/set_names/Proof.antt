@@ -4,10 +4,10 @@ use Prim.Native.Nat.{_-_}
 use mathlib.Core.Path.{_≡_, sym, _∙_}
 use native.Mathlib.Omega.{arith}
 use Rattle.reg_matrix.specs.Lists.{any, count}
-use Rattle.calls.specs.Testing.{hintedAt}
+use Rattle.call_tests.specs.Testing.{hintedAt}
 use Rattle.reg_matrix.proofs.Places.{any-more, any-end}
-use Rattle.calls.proofs.refusals.set_names.Statement.{statement}
-use Rattle.calls.proofs.refusals.set_names.Tie as tie
+use Rattle.call_tests.proofs.set_names.Statement.{statement}
+use Rattle.call_tests.proofs.set_names.Tie as tie
 
 abbrev Inv-loop : tie.InvT-loop
 Inv-loop n set reg sets starts hints k₀ k = any (hintedAt sets starts hints set reg) (count 0 n) ≡ any (hintedAt sets starts hints set reg) (count k (n - k))

@@ -1,8 +1,8 @@
 use borrow.Author.Needs.{needs}
 use borrow.Author.Tests.{le-leb, lt-leb}
 use Rattle.reg_matrix.specs.Refusals.{refusal}
-use Rattle.calls.proofs.refusals.evict_refusal.Statement.{statement}
-use Rattle.calls.proofs.refusals.evict_refusal.Tie as tie
+use Rattle.call_tests.proofs.evict_refusal.Statement.{statement}
+use Rattle.call_tests.proofs.evict_refusal.Tie as tie
 
 returns : tie.Need-returns
 unfolding refusal

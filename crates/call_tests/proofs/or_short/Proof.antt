@@ -1,6 +1,6 @@
 use borrow.Author.Tests.{lt-ltb, le-ltb}
-use Rattle.calls.proofs.refusals.or_short.Statement.{statement}
-use Rattle.calls.proofs.refusals.or_short.Tie as tie
+use Rattle.call_tests.proofs.or_short.Statement.{statement}
+use Rattle.call_tests.proofs.or_short.Tie as tie
 
 returns : tie.Need-returns
 returns c = rw (lt-ltb _ _ (c .if1 .taken))
