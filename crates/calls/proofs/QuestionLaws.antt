@@ -16,8 +16,8 @@ use Rattle.reg_matrix.specs.Questions.{tableLimits, checkLimits, checkRefusal, 
 use Rattle.reg_matrix.specs.Check.{check}
 use Rattle.reg_matrix.specs.declared.ValueSegment.{ValueSegment}
 use Rattle.reg_matrix.proofs.Places.{padded-read}
-use Rattle.placing.specs.Moves.{words}
-use Rattle.placing.specs.Placing.{freeAt, range, spareAnswer}
+use Rattle.entries.specs.Moves.{words}
+use Rattle.entries.specs.Placing.{freeAt, range, spareAnswer}
 use Rattle.matrix.specs.Walk.{Lent, segmentsIn, entered, remaining, startOf}
 use Rattle.job.specs.Model.{Job, unitMap}
 use Rattle.job.specs.Layout.{jobBuffers}

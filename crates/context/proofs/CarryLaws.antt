@@ -17,9 +17,9 @@ use Rattle.reg_matrix.specs.Layout.{endWords, restWords, useWords}
 use Rattle.reg_matrix.proofs.Tests.{both, not-some}
 use Rattle.lent.proofs.Laws.{any-default}
 use Rattle.reg_matrix.proofs.Places.{padded-length, padded-read, count-length, count-append, filter-append}
-use Rattle.placing.specs.Moves.{words}
-use Rattle.placing.specs.Placing.{Assigned, Evicted}
-use Rattle.placing.specs.declared.Moved.{Moved}
+use Rattle.entries.specs.Moves.{words}
+use Rattle.entries.specs.Placing.{Assigned, Evicted}
+use Rattle.entries.specs.declared.Moved.{Moved}
 use Rattle.job.specs.Model.{Job, VirtReg, noVirtReg, virtReg, unitMap, segmentsOf, zeroWeight}
 use Rattle.job.specs.Layout.{jobBuffers, startsFrom}
 use Rattle.job.proofs.Lists.{starts-length}

@@ -21,8 +21,8 @@ use Rattle.reg_matrix.specs.declared.ValueSegment.{ValueSegment}
 use Rattle.reg_matrix.specs.declared.Entry.{Entry}
 use Rattle.reg_matrix.proofs.Members.{_∈_}
 use Rattle.reg_matrix.proofs.Places.{padded-length, from-zero}
-use Rattle.placing.specs.Moves.{words}
-use Rattle.placing.specs.Placing.{freeAt, range, spareAnswer}
+use Rattle.entries.specs.Moves.{words}
+use Rattle.entries.specs.Placing.{freeAt, range, spareAnswer}
 use Rattle.placing.proofs.Asked.{filled-at}
 use Rattle.matrix.proofs.Decode.{entry-back}
 use Rattle.placing.proofs.Evicted.{word-at}

@@ -11,10 +11,10 @@ use Rattle.reg_matrix.specs.Lists.{ascii, concatMap, filter, any, bit, count}
 use Rattle.reg_matrix.specs.Lines.{number, sp, line, entryLine}
 use Rattle.reg_matrix.specs.Layout.{entryOf, greatest, maxEntries}
 use Rattle.reg_matrix.specs.Questions.{spareRefusal}
-use Rattle.placing.specs.Moves.{words}
-use Rattle.placing.specs.Placing.{freeAt, range, spareAnswer}
-use Rattle.placing.specs.declared.UnitFree.{UnitFree}
-use Rattle.placing.specs.declared.UnitFree.the-variants.{Free, Taken, NotAsked}
+use Rattle.entries.specs.Moves.{words}
+use Rattle.entries.specs.Placing.{freeAt, range, spareAnswer}
+use Rattle.entries.specs.declared.UnitFree.{UnitFree}
+use Rattle.entries.specs.declared.UnitFree.the-variants.{Free, Taken, NotAsked}
 use Rattle.job.specs.declared.Probe.{Probe}
 use Rattle.job.specs.declared.Probe.the-variants.{Over, NoProbe}
 use Rattle.job.specs.declared.JobHeader.{JobHeader}

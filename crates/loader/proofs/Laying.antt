@@ -22,7 +22,7 @@ use Rattle.job.specs.Layout.{startsFrom, jobBuffers, JobSlices, jobSlices, load
 use Rattle.job.proofs.Lists.{starts-length}
 use Rattle.job.proofs.Premises.{Premises}
 use Rattle.lent.specs.Parts.{filled}
-use Rattle.placing.specs.Reserving.{lain}
+use Rattle.entries.specs.Reserving.{lain}
 use Rattle.placing.proofs.Loaded.{In}
 use Rattle.fields.specs.declared.whole.JobRead.{JobRead}
 use Rattle.fields.specs.declared.whole.JobRead.the-variants.{Is, Refused}

@@ -18,7 +18,7 @@ use Rattle.job.specs.Parser.{Parsed, refused, parsed, andThen, _>>_, done, refu
 use Rattle.job.specs.Load.{Bytes, jobFields, twin, mixedSet, cutUse, wholeJob, asLoaded, notLoaded, loaded, loadWith}
 use Rattle.job.specs.Layout.{JobSlices, loadLimits, headerOf}
 use Rattle.job.proofs.Loads.{loads-premises}
-use Rattle.placing.specs.Reserving.{Lain, lain, cleared}
+use Rattle.entries.specs.Reserving.{Lain, lain, cleared}
 use Rattle.placing.proofs.Loaded.{In}
 use Rattle.fields.specs.declared.whole.TableSizes.{TableSizes}
 use Rattle.reader.specs.Read.{FixedAt}

@@ -13,7 +13,7 @@ use Rattle.reg_matrix.proofs.Members.{getD-in}
 use Rattle.reg_matrix.proofs.Chains.{not-held}
 use Rattle.job.specs.Model.{Job}
 use Rattle.job.proofs.Premises.{Premises}
-use Rattle.placing.specs.Reserving.{Lain, cleared, reserving}
+use Rattle.entries.specs.Reserving.{Lain, cleared, reserving}
 use Rattle.placing.proofs.Loaded.{put, In, reserved-all}
 use Rattle.reader.specs.Read.{FixedAt, useNumber}
 use Rattle.loader.specs.Loading.{reservingAll}

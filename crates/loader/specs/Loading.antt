@@ -14,7 +14,7 @@ use Rattle.job.specs.Model.{Job, zeroWeight}
 use Rattle.job.specs.Parser.{Parser, Parsed, refused, parsed, _>>=_, _>>_, done, refuse, rest}
 use Rattle.job.specs.Load.{jobFields, twin, mixedSet, cutUse, Loaded, notLoaded, loaded, loadWith}
 use Rattle.job.specs.Layout.{JobSlices, jobSlices, loadLimits, headerOf}
-use Rattle.placing.specs.Reserving.{Lain, reserving}
+use Rattle.entries.specs.Reserving.{Lain, reserving}
 use Rattle.fields.specs.declared.whole.TableSizes.{TableSizes}
 use Rattle.fields.specs.Whole.{JobAt, SizesOf}
 use Rattle.loader.specs.declared.load.JobTested.{JobTested}

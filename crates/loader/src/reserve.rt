@@ -1,11 +1,11 @@
 // The fixed reservations of a job, put into the table one after another.
 ghost use mathlib.Core.Path.{_≡_};
-ghost use Rattle.placing.specs.Reserving.{lain, cleared};
+ghost use Rattle.entries.specs.Reserving.{lain, cleared};
 ghost use Rattle.loader.specs.Loading.{reservingAll};
+use entries::reserve::clear;
+use entries::reserve::reserve_fixed;
 use lent::at8;
 use lent::at32;
-use placing::reserve::clear;
-use placing::reserve::reserve_fixed;
 
 // The table and its fixed uses with the first n reservations of the four slices, and nothing else.
 pub fn reserve_all(

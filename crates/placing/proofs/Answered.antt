@@ -13,12 +13,12 @@ use Rattle.reg_matrix.specs.Table.{Table}
 use Rattle.reg_matrix.specs.Check.{check}
 use Rattle.reg_matrix.specs.Assign.{assign, evict}
 use Rattle.reg_matrix.specs.Layout.{maxEntries, maxFixed, greatest, endWord, restWord, endWords, restWords, useWord, useWords}
-use Rattle.placing.specs.Moves.{Words}
-use Rattle.placing.specs.Placing.{assigning, evicting, moveLimits, moveRefusal, moved, sizes, unlessRefused, Assigned, Evicted}
+use Rattle.entries.specs.Moves.{Words}
+use Rattle.entries.specs.Placing.{assigning, evicting, moveLimits, moveRefusal, moved, sizes, unlessRefused, Assigned, Evicted}
 use Rattle.reg_matrix.specs.declared.ValueSegment.{ValueSegment}
 use Rattle.reg_matrix.specs.declared.Entry.{Entry}
-use Rattle.placing.specs.declared.Moved.{Moved}
-use Rattle.placing.specs.declared.Moved.the-variants.{Done}
+use Rattle.entries.specs.declared.Moved.{Moved}
+use Rattle.entries.specs.declared.Moved.the-variants.{Done}
 use Rattle.reg_matrix.proofs.Places.{padded-length}
 use Rattle.reg_matrix.proofs.Cells.{Cell}
 use Rattle.reg_matrix.proofs.Chains.{Sound}

@@ -16,8 +16,8 @@ use Rattle.reg_matrix.specs.Table.{Table, onUnit}
 use Rattle.reg_matrix.specs.Questions.{startsPast, isUnitFree}
 use Rattle.reg_matrix.specs.Layout.{maxEntries, greatest, endWord, restWord, reservationWord, endWords, restWords}
 use Rattle.matrix.specs.Search.{placeOf, below}
-use Rattle.placing.specs.Moves.{Words}
-use Rattle.placing.specs.Placing.{freeAt, range}
+use Rattle.entries.specs.Moves.{Words}
+use Rattle.entries.specs.Placing.{freeAt, range}
 use Rattle.reg_matrix.specs.declared.Entry.{Entry}
 use Rattle.reg_matrix.proofs.Members.{_∈_, filter-none}
 use Rattle.reg_matrix.proofs.Sorted.{Sorted}

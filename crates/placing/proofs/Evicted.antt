@@ -17,8 +17,8 @@ use Rattle.reg_matrix.specs.Table.{Table, isUse, before, fixedUses, insert, ins
 use Rattle.reg_matrix.specs.Assign.{fixedIndex, entryOf, heldBy, usesFrom, putBack, evictSegment}
 use Rattle.reg_matrix.specs.Layout.{maxEntries, maxFixed, greatest, endWord, restWord, endWords, restWords, reservationWord, indexWord, useValue, useWord, useWords}
 use Rattle.matrix.specs.Search.{placeOf, below}
-use Rattle.placing.specs.Moves.{Words, inserting, removing}
-use Rattle.placing.specs.Placing.{insertingUse, insertingUses, isOwn, firstUnder, evictingSegment, unitKey}
+use Rattle.entries.specs.Moves.{Words, inserting, removing}
+use Rattle.entries.specs.Placing.{insertingUse, insertingUses, isOwn, firstUnder, evictingSegment, unitKey}
 use Rattle.reg_matrix.specs.declared.Entry.{Entry}
 use Rattle.reg_matrix.specs.declared.FixedIndex.{FixedIndex}
 use Rattle.reg_matrix.specs.declared.FixedIndex.the-variants.{At, NoIndex}

@@ -1,4 +1,3 @@
-pub mod Shifts
 pub mod PlacingWalks
 pub mod Reading
 pub mod UnitWalk

@@ -19,9 +19,9 @@ use Rattle.reg_matrix.proofs.Members.{_∈_, fixedUses-in, fixedUses-out}
 use Rattle.reg_matrix.proofs.Places.{filter-append}
 use Rattle.reg_matrix.proofs.Sorted.{Sorted, Parted, OrderedTo, insertAll-sorted, insertAll-out}
 use Rattle.reg_matrix.proofs.Chains.{Chain, Sound, not-held}
-use Rattle.placing.specs.Moves.{Words, inserting}
-use Rattle.placing.specs.Placing.{insertingUse}
-use Rattle.placing.specs.Reserving.{Lain, cleared, reserving, insertingWord}
+use Rattle.entries.specs.Moves.{Words, inserting}
+use Rattle.entries.specs.Placing.{insertingUse}
+use Rattle.entries.specs.Reserving.{Lain, cleared, reserving, insertingWord}
 use Rattle.placing.proofs.Standing.{SmallEnd, SmallEnds, Stands}
 use Rattle.placing.proofs.Lying.{AllSmall, allUses, UsesLie}
 use Rattle.placing.proofs.Evicted.{insertAll-length}

@@ -14,7 +14,7 @@ use Rattle.reg_matrix.specs.Table.{isUse, fixedUses}
 use Rattle.reg_matrix.specs.Assign.{firstUse}
 use Rattle.reg_matrix.specs.Layout.{maxFixed, greatest, useValue, useWord, useWords}
 use Rattle.matrix.specs.Search.{placeOf, Rises, below}
-use Rattle.placing.specs.Placing.{unitKey, useKey, usesBefore}
+use Rattle.entries.specs.Placing.{unitKey, useKey, usesBefore}
 use Rattle.reg_matrix.specs.declared.ValueSegment.{ValueSegment}
 use Rattle.reg_matrix.specs.declared.Entry.{Entry}
 use Rattle.reg_matrix.proofs.Members.{_∈_, filter-none, fixedUses-out, concat-out}

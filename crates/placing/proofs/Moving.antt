@@ -12,8 +12,8 @@ use Rattle.reg_matrix.specs.Table.{Table, unitsOf}
 use Rattle.reg_matrix.specs.Check.{check}
 use Rattle.reg_matrix.specs.Assign.{assignSegment, assign, evictSegment, evict}
 use Rattle.reg_matrix.specs.Layout.{maxEntries, maxFixed}
-use Rattle.placing.specs.Moves.{Words}
-use Rattle.placing.specs.Placing.{assigningSegment, assigningUnit, assigning, evictingSegment, evictingUnit, evicting}
+use Rattle.entries.specs.Moves.{Words}
+use Rattle.entries.specs.Placing.{assigningSegment, assigningUnit, assigning, evictingSegment, evictingUnit, evicting}
 use Rattle.reg_matrix.specs.declared.ValueSegment.{ValueSegment}
 use Rattle.reg_matrix.specs.declared.Entry.{Entry}
 use Rattle.reg_matrix.proofs.Members.{_∈_, unitsOf-out}

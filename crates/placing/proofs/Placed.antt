@@ -15,8 +15,8 @@ use Rattle.reg_matrix.specs.Table.{Table, fixedUses}
 use Rattle.reg_matrix.specs.Assign.{replaced, firstUse, fixedIndex, assignSegment}
 use Rattle.reg_matrix.specs.Layout.{maxEntries, endWord, indexWord, restWord}
 use Rattle.matrix.specs.Search.{placeOf, below}
-use Rattle.placing.specs.Moves.{Words, removingRun}
-use Rattle.placing.specs.Placing.{indexPart, heldWord, assigningSegment}
+use Rattle.entries.specs.Moves.{Words, removingRun}
+use Rattle.entries.specs.Placing.{indexPart, heldWord, assigningSegment}
 use Rattle.reg_matrix.specs.declared.Entry.{Entry}
 use Rattle.reg_matrix.specs.declared.FixedIndex.the-variants.{At, NoIndex}
 use Rattle.reg_matrix.specs.declared.Reservation.the-variants.{Held}

@@ -9,8 +9,8 @@ use lib.ListN.{length, drop, getD, drop-of-length-le}
 use lib.Seq.{drop-cons, drop-drop, getD-drop}
 use Rattle.reg_matrix.specs.Lists.{foldl}
 use Rattle.reg_matrix.specs.Table.{unitsOf}
-use Rattle.placing.specs.Moves.{Words}
-use Rattle.placing.specs.Placing.{assigningSegment, assigningUnit, insertingUse, insertingUses}
+use Rattle.entries.specs.Moves.{Words}
+use Rattle.entries.specs.Placing.{assigningSegment, assigningUnit, insertingUse, insertingUses}
 use Rattle.matrix.proofs.UnitMaps.{first-unit, no-units}
 
 -- ---- segments

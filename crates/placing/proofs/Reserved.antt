@@ -14,9 +14,9 @@ use Rattle.reg_matrix.specs.Lists.{keep, filter, concatMap, count, padded}
 use Rattle.reg_matrix.specs.Table.{Table, isUse, fixedUses, insert}
 use Rattle.reg_matrix.specs.Layout.{maxEntries, maxFixed, greatest, endWord, restWord, reservationWord, endWords, restWords, useWord, useWords}
 use Rattle.matrix.specs.Search.{placeOf}
-use Rattle.placing.specs.Moves.{Words, words, inserting, inserted}
-use Rattle.placing.specs.Placing.{insertingUse, useKey}
-use Rattle.placing.specs.Reserving.{filled, insertingWord}
+use Rattle.entries.specs.Moves.{Words, words, inserting, inserted}
+use Rattle.entries.specs.Placing.{insertingUse, useKey}
+use Rattle.entries.specs.Reserving.{filled, insertingWord}
 use Rattle.reg_matrix.specs.declared.Entry.{Entry}
 use Rattle.reg_matrix.specs.declared.Reservation.{Reservation}
 use Rattle.reg_matrix.specs.declared.Reservation.the-variants.{FixedDef}
@@ -25,7 +25,7 @@ use Rattle.reg_matrix.proofs.Members.{_∈_, concat-none, count-out}
 use Rattle.reg_matrix.proofs.Sorted.{Sorted}
 use Rattle.reg_matrix.proofs.Chains.{Sound}
 use Rattle.reg_matrix.proofs.Places.{filter-append, concat-same}
-use Rattle.placing.proofs.Shifts.{filled-is}
+use Rattle.entries.proofs.Shifts.{filled-is}
 use Rattle.placing.proofs.Standing.{SmallEnds, Stands, room-inserted, insert-stands}
 use Rattle.reg_matrix.proofs.Small.{SmallEntry}
 use Rattle.placing.proofs.Lying.{AllSmall, allUses, UsesLie, first-use, use-place, use-count}

@@ -15,7 +15,7 @@ use Rattle.reg_matrix.specs.Lists.{keep, filter, putBefore, insertBy, padded}
 use Rattle.reg_matrix.specs.Table.{Table, before, insert}
 use Rattle.reg_matrix.specs.Layout.{maxEntries, greatest, endWord, restWord, endWords, restWords}
 use Rattle.matrix.specs.Search.{placeOf, Rises, below}
-use Rattle.placing.specs.Moves.{Words, entries, inserted, removed, inserting, removing, removingRun}
+use Rattle.entries.specs.Moves.{Words, entries, inserted, removed, inserting, removing, removingRun}
 use Rattle.reg_matrix.specs.declared.Entry.{Entry}
 use Rattle.reg_matrix.proofs.Places.{insert-longer}
 use Rattle.reg_matrix.proofs.Tests.{same-test}
@@ -24,7 +24,7 @@ use Rattle.reg_matrix.proofs.Sorted.{Before, before→, →before, Below, below
 use Rattle.matrix.proofs.Halves.{below-length, place-searched}
 pub use Rattle.matrix.proofs.Halves.{none-below as below-none}
 use Rattle.matrix.proofs.Decode.{replicate-in}
-use Rattle.placing.proofs.Shifts.{inserted-room, removed-room}
+use Rattle.entries.proofs.Shifts.{inserted-room, removed-room}
 
 -- ---- numbers that rise, and what is behind them
 

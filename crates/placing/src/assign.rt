@@ -2,16 +2,17 @@
 ghost use mathlib.Core.Path.{_≡_};
 ghost use Prim.Native.Nat.{_-_, _<_, _≤_, _^_};
 ghost use lib.Count.{trailingZeros};
-ghost use Rattle.placing.specs.Moves.{words};
-ghost use Rattle.placing.specs.Placing.{usesBefore, indexPart, assigningSegment, assigningUnit, assigning};
-ghost use Rattle.placing.specs.Placing.{isOwn, insertingUse, insertingUses, firstUnder, evictingSegment, evictingUnit, evicting};
+ghost use Rattle.entries.specs.Moves.{words};
+ghost use Rattle.entries.specs.Placing.{usesBefore, indexPart, assigningSegment, assigningUnit, assigning};
+ghost use Rattle.entries.specs.Placing.{isOwn, insertingUse, insertingUses, firstUnder, evictingSegment, evictingUnit, evicting};
 ghost use mathlib.Core.List.{[], _∷_};
 ghost use Rattle.reg_matrix.specs.Refusals.{shortBuffer};
-ghost use Rattle.placing.specs.Placing.{moveLimits, Assigned, Evicted};
-use crate::Moved;
-use crate::table::insert;
-use crate::table::remove;
-use crate::table::remove_run;
+ghost use Rattle.entries.specs.Placing.{moveLimits, Assigned, Evicted};
+use entries::Moved;
+use entries::table::insert;
+use entries::table::insert_use;
+use entries::table::remove;
+use entries::table::remove_run;
 use lent::at;
 use lent::at32;
 use matrix::search::find;
@@ -135,16 +136,6 @@ fn is_own(ends: &[u64], rests: &[u64], v: u16, end: u64, place: usize) -> bool
         }
     }
     false
-}
-
-// Puts the fixed use of this number into the table.
-pub fn insert_use(ends: &mut [u64], rests: &mut [u64], x: u64)
-    ensures { λ r. ⌜ words (now (ends .exit)) (now (rests .exit)) ≡ insertingUse x (words (now (ends .entry)) (now (rests .entry))) ⌝ }
-{
-    let from = x / 0x1_0000 % 0x1_0000_0000;
-    let end = x / 0x1_0000_0000_0000 * 0x1_0000_0000 + (from + 2);
-    let rest = from * 0x1_0000_0000 + (x % 0x1_0000 + 1);
-    insert(ends, rests, end, rest);
 }
 
 // Puts the fixed uses number `first` to `last` back.

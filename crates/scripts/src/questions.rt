@@ -3,10 +3,10 @@
 ghost use Prim.Native.Nat.{_≤_};
 use crate::input::read_number;
 use crate::output::print;
+use entries::unit_free::is_unit_free;
 use matrix::Cursor;
 use matrix::Start;
 use matrix::Step;
-use placing::unit_free::is_unit_free;
 use reg_matrix::ValueSegment;
 use thin::lists::check_list;
 use thin::lists::next_in_list;

@@ -14,9 +14,9 @@ use Rattle.reg_matrix.specs.Layout.{maxEntries, endWords, restWords, useWords}
 use Rattle.reg_matrix.proofs.Cells.{Cell}
 use Rattle.reg_matrix.proofs.Whole.{cells}
 use Rattle.reg_matrix.proofs.Laws.{Matrix}
-use Rattle.placing.specs.Moves.{Words, words}
-use Rattle.placing.specs.Placing.{Assigned, Evicted, freeAt, range}
-use Rattle.placing.specs.declared.Moved.{Moved}
+use Rattle.entries.specs.Moves.{Words, words}
+use Rattle.entries.specs.Placing.{Assigned, Evicted, freeAt, range}
+use Rattle.entries.specs.declared.Moved.{Moved}
 use Rattle.matrix.proofs.Decode.{fits-word}
 use Rattle.placing.proofs.Standing.{Stands}
 use Rattle.placing.proofs.Lying.{UsesLie}

@@ -5,12 +5,12 @@ use mathlib.Core.List.{List, [], _∷_}
 use mathlib.Core.Bool.{Bool, true, false}
 use Rattle.reg_matrix.specs.Questions.{checkRefusal}
 use Rattle.matrix.specs.Walk.{Answered, lent, startOf, entered}
-use Rattle.placing.specs.Moves.{Words}
-use Rattle.placing.specs.Placing.{Assigned, Evicted}
+use Rattle.entries.specs.Moves.{Words}
+use Rattle.entries.specs.Placing.{Assigned, Evicted}
 use Rattle.matrix.specs.declared.Cursor.{Cursor}
 use Rattle.matrix.specs.declared.Step.{Step}
-use Rattle.placing.specs.declared.Moved.{Moved}
-use Rattle.placing.specs.declared.Moved.the-variants.{Refused}
+use Rattle.entries.specs.declared.Moved.{Moved}
+use Rattle.entries.specs.declared.Moved.the-variants.{Refused}
 use lib.Dec.{ltb}
 use lib.ListN.{length, take, getD, length-map}
 use lib.Seq.{take-all}

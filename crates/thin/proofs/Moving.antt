@@ -44,12 +44,12 @@ use denote.Struct.Laws as LL
 use denote.Enum.Laws as EL
 use denote.Triple.Walked.{says, Stays, stay-dropped, gave-slice, walkOf, Walks, ends-at, walked, goes-dropped, goes-gave-slice, walk-meets}
 use Rattle.reg_matrix.specs.declared.ValueSegment.{ValueSegment}
-use Rattle.placing.specs.declared.Moved.{Moved}
-use Rattle.placing.specs.Moves.{Words, words}
+use Rattle.entries.specs.declared.Moved.{Moved}
+use Rattle.entries.specs.Moves.{Words, words}
 use Rattle.thin.specs.declared.Fields.{Fields}
 use Rattle.thin.specs.Apart.{takenApart}
-use Rattle.placing.proofs.Moved as E
-use Rattle.placing.proofs.Moved.Laws as E′
+use Rattle.entries.proofs.Moved as E
+use Rattle.entries.proofs.Moved.Laws as E′
 use Rattle.thin.proofs.Fields as T
 use Rattle.thin.proofs.Fields.Laws as T′
 use Rattle.thin.proofs.Arrays.{R}

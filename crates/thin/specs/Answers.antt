@@ -8,10 +8,10 @@ use mathlib.Core.Bool.{Bool, cond}
 use lib.ListN.{length, getD, take}
 use Rattle.reg_matrix.specs.Questions.{checkRefusal}
 use Rattle.matrix.specs.Walk.{startOf, segmentsIn, entered}
-use Rattle.placing.specs.Moves.{Words}
-use Rattle.placing.specs.Placing.{moved, moveRefusal, sizes, unlessRefused, assigning, evicting}
+use Rattle.entries.specs.Moves.{Words}
+use Rattle.entries.specs.Placing.{moved, moveRefusal, sizes, unlessRefused, assigning, evicting}
 use Rattle.matrix.specs.declared.Start.{Start}
-use Rattle.placing.specs.declared.Moved.{Moved}
+use Rattle.entries.specs.declared.Moved.{Moved}
 
 -- 15 where the segments have no room, and else what the call tests
 abbrev pub unlessLong : Bool → Option ℕ → Option ℕ

@@ -2,13 +2,13 @@
 ghost use mathlib.Core.Path.{_≡_};
 ghost use lib.Dec.{ltb};
 ghost use lib.ListN.{length};
-ghost use Rattle.placing.specs.Moves.{words};
+ghost use Rattle.entries.specs.Moves.{words};
 ghost use Rattle.thin.specs.Apart.{maxSegments, fromsOf, tosOf};
 ghost use Rattle.thin.specs.Answers.{AssignAnswer, EvictAnswer};
 use crate::covered::assign_fields;
 use crate::covered::evict_fields;
 use crate::taking::take_apart;
-use placing::Moved;
+use entries::Moved;
 use reg_matrix::ValueSegment;
 
 // Places v in the register of this map of units: on each unit every segment replaces the fixed uses inside it by one entry, whose index is

@@ -1,17 +1,17 @@
 // The calls of crate matrix on segments that are taken apart. No function here has a slice of structs, so the borrow checker covers each.
 ghost use mathlib.Core.Path.{_≡_};
-ghost use Rattle.placing.specs.Moves.{words};
+ghost use Rattle.entries.specs.Moves.{words};
 ghost use Rattle.matrix.specs.Walk.{Answered, lent, entered};
 ghost use Rattle.thin.specs.Answers.{checkAnswer, AssignAnswer, EvictAnswer};
 ghost use Rattle.thin.specs.Apart.{fromsIn, tosIn, valuesIn};
 use crate::Fields;
+use entries::Moved;
 use lent::part16;
 use lent::part32;
 use matrix::Cursor;
 use matrix::Start;
 use matrix::Step;
 use matrix::check;
-use placing::Moved;
 use placing::assign;
 
 // The check of segments that are taken apart.

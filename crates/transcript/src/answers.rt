@@ -7,7 +7,7 @@ use crate::texts::byte;
 use crate::texts::number;
 use crate::texts::spaced;
 use crate::texts::text;
-use placing::UnitFree;
+use entries::UnitFree;
 use reg_matrix::Interference;
 use reg_matrix::InterferenceKind;
 

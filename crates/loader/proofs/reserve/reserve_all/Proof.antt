@@ -5,7 +5,7 @@ use native.Mathlib.Omega.{arith}
 use mathlib.Core.Path.{_≡_, refl, ap, sym, _∙_}
 use lib.ListN.{length, getD}
 use Rattle.reg_matrix.specs.Lists.{foldl, count}
-use Rattle.placing.specs.Reserving.{Lain, lain, cleared, reserving}
+use Rattle.entries.specs.Reserving.{Lain, lain, cleared, reserving}
 use Rattle.loader.specs.Loading.{reservingAll}
 use Rattle.job_tests.proofs.Places.{fold-more, fold-end}
 use Rattle.loader.proofs.reserve.reserve_all.Statement.{statement}

@@ -1,6 +1,6 @@
 use borrow.Author.Needs.{needs}
 use mathlib.Core.Path.{_∙_}
-use Rattle.placing.specs.Placing.{assigningSegment}
+use Rattle.entries.specs.Placing.{assigningSegment}
 use Rattle.placing.proofs.assign.assign_segment.Statement.{statement}
 use Rattle.placing.proofs.assign.assign_segment.Tie as tie
 

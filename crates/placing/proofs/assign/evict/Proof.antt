@@ -1,7 +1,7 @@
 use borrow.Author.Needs.{needs}
 use borrow.Author.Tests.{le-leb, lt-leb}
 use Rattle.reg_matrix.specs.Refusals.{refusal}
-use Rattle.placing.specs.Placing.{moveRefusal}
+use Rattle.entries.specs.Placing.{moveRefusal}
 use Rattle.placing.proofs.assign.evict.Statement.{statement}
 use Rattle.placing.proofs.assign.evict.Tie as tie
 

@@ -1,6 +1,6 @@
 use borrow.Author.Needs.{needs}
 use mathlib.Core.Path.{_∙_}
-use Rattle.placing.specs.Placing.{evictingSegment}
+use Rattle.entries.specs.Placing.{evictingSegment}
 use Rattle.placing.proofs.assign.evict_segment.Statement.{statement}
 use Rattle.placing.proofs.assign.evict_segment.Tie as tie
 

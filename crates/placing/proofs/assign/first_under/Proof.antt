@@ -1,6 +1,6 @@
 use borrow.Author.Needs.{needs}
 use borrow.Author.Tests.{eq-eqb, ne-eqb}
-use Rattle.placing.specs.Placing.{firstUnder}
+use Rattle.entries.specs.Placing.{firstUnder}
 use Rattle.placing.proofs.assign.first_under.Statement.{statement}
 use Rattle.placing.proofs.assign.first_under.Tie as tie
 

@@ -1,7 +1,7 @@
 use borrow.Author.Needs.{needs}
 use native.Mathlib.Omega.{arith}
 use borrow.Author.Tests.{lt-ltb, le-ltb}
-use Rattle.placing.specs.Placing.{indexPart}
+use Rattle.entries.specs.Placing.{indexPart}
 use Rattle.placing.proofs.assign.index_part.Statement.{statement}
 use Rattle.placing.proofs.assign.index_part.Tie as tie
 

@@ -2,8 +2,8 @@ use borrow.Author.Needs.{needs}
 use Prim.Native.Nat.{_-_}
 use mathlib.Core.Path.{_≡_, refl, sym, _∙_}
 use lib.ListN.{length}
-use Rattle.placing.specs.Moves.{words}
-use Rattle.placing.specs.Placing.{insertingUses}
+use Rattle.entries.specs.Moves.{words}
+use Rattle.entries.specs.Placing.{insertingUses}
 use Rattle.placing.proofs.PlacingWalks.{uses-more, uses-end}
 use Rattle.placing.proofs.assign.insert_uses.Statement.{statement}
 use Rattle.placing.proofs.assign.insert_uses.Tie as tie

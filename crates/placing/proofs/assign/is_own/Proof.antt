@@ -1,6 +1,6 @@
 use borrow.Author.Needs.{needs}
 use borrow.Author.Tests.{lt-ltb, le-ltb, eq-eqb, ne-eqb}
-use Rattle.placing.specs.Placing.{isOwn}
+use Rattle.entries.specs.Placing.{isOwn}
 use Rattle.placing.proofs.assign.is_own.Statement.{statement}
 use Rattle.placing.proofs.assign.is_own.Tie as tie
 

@@ -1,7 +1,7 @@
 use borrow.Author.Needs.{needs}
 use native.Mathlib.Omega.{arith}
 use mathlib.Core.Path.{_∙_}
-use Rattle.placing.specs.Placing.{usesBefore}
+use Rattle.entries.specs.Placing.{usesBefore}
 use Rattle.placing.proofs.assign.uses_before.Statement.{statement}
 use Rattle.placing.proofs.assign.uses_before.Tie as tie
 
