@@ -1,2 +1,1 @@
 pub mod Virt
-pub mod Whole

@@ -1,10 +1,8 @@
--- What the readers of virtual registers and of the probe range promise, in the terms of the parsers of Load.antt. What they store stands in the slices
--- of a job (Layout.antt of the job), where there is room. Assumes nothing.
+-- What the readers of virtual registers promise, in the terms of the parsers of Load.antt. What they store stands in the slices of a job (Layout.antt
+-- of the job), where there is room. Assumes nothing.
 use Prim.Native.Nat.{ℕ, _+_, _≤_}
 use mathlib.Core.Path.{_≡_}
 use mathlib.Core.List.{List, map}
-use mathlib.Core.Bool.{Bool}
-use mathlib.Core.Option.{Option, none, some}
 use lib.Ieee.{Float}
 use lib.ListN.{drop, length, set}
 use lib.Seq.{sets}
@@ -23,13 +21,8 @@ use Rattle.fields.specs.declared.virt.VirtsRead.{VirtsRead}
 use Rattle.fields.specs.declared.virt.VirtsRead.the-variants.{Is as IsVirts, Refused as NoVirts}
 use Rattle.fields.specs.declared.virt.VirtTable.{VirtTable}
 use Rattle.fields.specs.declared.virt.VirtTable.the-variants.{Is as IsTable, Refused as NoTable}
-use Rattle.job.specs.declared.Probe.{Probe}
-use Rattle.job.specs.declared.Probe.the-variants.{Over, NoProbe}
-use Rattle.fields.specs.declared.whole.ProbeRead.{ProbeRead}
-use Rattle.fields.specs.declared.whole.ProbeRead.the-variants.{Is as IsProbe, Refused as NoRange}
 use Rattle.job.specs.Model.{VirtReg}
-use Rattle.job.specs.Parser.{Parser, Parsed, refused, parsed, done, ifBit, _>>=_}
-use Rattle.job.specs.Load.{range}
+use Rattle.job.specs.Parser.{Parsed, refused, parsed}
 use Rattle.job.specs.Layout.{startsFrom}
 use Rattle.reader.specs.Read.{Stored, hintsOfAll, segmentsOfAll}
 
@@ -122,16 +115,3 @@ abbrev pub TableOut : List ℕ → Parsed (List VirtReg) → VirtTable → (List
 TableOut s p (NoTable n) stored = p ≡ refused n
 TableOut s p (IsTable n h g at) stored =
     (vs : List VirtReg) × (p ≡ parsed vs (drop at s)) × (length vs ≡ n) × (length (hintsOfAll vs) ≡ h) × (length (segmentsOfAll vs) ≡ g) × (h ≤ 1024) × (g ≤ 512) × stored vs
-
--- ---- the probe range
-
-abbrev pub probeField : Bool → Parser (Option ValueSegment)
-probeField stands = ifBit stands none (do r ← range 0 (done 0); done (some r))
-
-abbrev pub rangeOf : Probe → Option ValueSegment
-rangeOf NoProbe = none
-rangeOf (Over a b) = some (record { from = a; to = b; value = 0 })
-
-abbrev pub probeView : List ℕ → ProbeRead → Parsed (Option ValueSegment)
-probeView s (IsProbe p at) = parsed (rangeOf p) (drop at s)
-probeView s (NoRange n) = refused n

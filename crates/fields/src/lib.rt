@@ -1,4 +1,4 @@
-// Reading a job: its virtual registers, and all its fields, from bytes into lent numbers, as the parsers of the crate job say.
+// Reading a job: its virtual registers from bytes into lent numbers, as the parsers of the crate job say. All its fields are read in the crate
+// whole_fields.
 
-mod virt;
-pub mod whole;
+pub mod virt;

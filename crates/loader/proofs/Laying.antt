@@ -24,11 +24,11 @@ use Rattle.job.proofs.Premises.{Premises}
 use Rattle.lent.specs.Parts.{filled}
 use Rattle.entries.specs.Reserving.{lain}
 use Rattle.placing.proofs.Loaded.{In}
-use Rattle.fields.specs.declared.whole.JobRead.{JobRead}
-use Rattle.fields.specs.declared.whole.JobRead.the-variants.{Is, Refused}
+use Rattle.whole_fields.specs.declared.JobRead.{JobRead}
+use Rattle.whole_fields.specs.declared.JobRead.the-variants.{Is, Refused}
 use Rattle.reader.specs.Read.{allMembers, hintsOfAll, segmentsOfAll}
 use Rattle.fields.specs.Virt.{in32, in16, in8, inWeights, hintEnds, segmentEnds, VirtsAt}
-use Rattle.fields.specs.Whole.{JobAt, JobOut}
+use Rattle.whole_fields.specs.Whole.{JobAt, JobOut}
 use Rattle.loader.specs.Loading.{Lent, lent, sizesOf, cleared, Stores, later}
 use Rattle.loader.proofs.Regions.{region, laid-out}
 

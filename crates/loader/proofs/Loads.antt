@@ -20,9 +20,9 @@ use Rattle.job.specs.Layout.{JobSlices, loadLimits, headerOf}
 use Rattle.job.proofs.Loads.{loads-premises}
 use Rattle.entries.specs.Reserving.{Lain, lain, cleared}
 use Rattle.placing.proofs.Loaded.{In}
-use Rattle.fields.specs.declared.whole.TableSizes.{TableSizes}
+use Rattle.whole_fields.specs.declared.TableSizes.{TableSizes}
 use Rattle.reader.specs.Read.{FixedAt}
-use Rattle.fields.specs.Whole.{SizesOf}
+use Rattle.whole_fields.specs.Whole.{SizesOf}
 use Rattle.loader.specs.Loading.{Lent, lent, sizesOf, testedJob, Stores, reservingAll, later, LoadDone}
 use Rattle.loader.specs.declared.load.JobLoaded.the-variants.{Is, Refused}
 use Rattle.loader.proofs.Reserves.{reserved-job}

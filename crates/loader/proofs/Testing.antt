@@ -19,11 +19,11 @@ use Rattle.job.specs.Load.{Bytes, jobFields, twin, mixedSet, cutUse}
 use Rattle.job.specs.Layout.{startsFrom, JobSlices, headerOf}
 use Rattle.job.proofs.Fields.{GoodJob, fields-good}
 use Rattle.job.proofs.Lists.{starts-length}
-use Rattle.fields.specs.declared.whole.TableSizes.{TableSizes}
-use Rattle.fields.specs.declared.whole.JobRead.the-variants.{Is, Refused}
+use Rattle.whole_fields.specs.declared.TableSizes.{TableSizes}
+use Rattle.whole_fields.specs.declared.JobRead.the-variants.{Is, Refused}
 use Rattle.reader.specs.Read.{FixedAt, allMembers, hintsOfAll, segmentsOfAll}
 use Rattle.fields.specs.Virt.{in32, in16, in8, hintEnds, segmentEnds}
-use Rattle.fields.specs.Whole.{SizesOf, JobAt, JobOut}
+use Rattle.whole_fields.specs.Whole.{SizesOf, JobAt, JobOut}
 use Rattle.reader.proofs.Tables.{segmentsIn-length}
 use Rattle.job_tests.specs.Tests.{equalAt, memberTwice, classesDiffer, crossesAt, wholeNumber}
 use Rattle.loader.specs.Loading.{testedJob, TestedOut}

@@ -15,8 +15,8 @@ use Rattle.job.specs.Parser.{Parser, Parsed, refused, parsed, _>>=_, _>>_, done
 use Rattle.job.specs.Load.{jobFields, twin, mixedSet, cutUse, Loaded, notLoaded, loaded, loadWith}
 use Rattle.job.specs.Layout.{JobSlices, jobSlices, loadLimits, headerOf}
 use Rattle.entries.specs.Reserving.{Lain, reserving}
-use Rattle.fields.specs.declared.whole.TableSizes.{TableSizes}
-use Rattle.fields.specs.Whole.{JobAt, SizesOf}
+use Rattle.whole_fields.specs.declared.TableSizes.{TableSizes}
+use Rattle.whole_fields.specs.Whole.{JobAt, SizesOf}
 use Rattle.loader.specs.declared.load.JobTested.{JobTested}
 use Rattle.loader.specs.declared.load.JobTested.the-variants.{Is as IsTested, Refused as NotTested}
 use Rattle.loader.specs.declared.load.JobLoaded.{JobLoaded}

@@ -8,9 +8,6 @@ ghost use Rattle.loader.specs.Loading.{testedJob, TestedOut, Stores, len
 use crate::buffers::clear_job;
 use crate::buffers::is_short;
 use crate::reserve::reserve_all;
-use fields::whole::JobRead;
-use fields::whole::TableSizes;
-use fields::whole::job_fields;
 use job::CLASSES;
 use job::JobHeader;
 use job::SETS;
@@ -21,6 +18,9 @@ use job_tests::tests::whole_refusal;
 use lent::from8;
 use lent::from16;
 use lent::from32;
+use whole_fields::JobRead;
+use whole_fields::TableSizes;
+use whole_fields::job_fields;
 
 // What the first reading found: what goes by value of the job, and the sizes of its tables; or a refusal's number.
 pub enum JobTested {

@@ -1,13 +1,14 @@
-// All fields of a job, in byte order.
+// Reading a job: all its fields, in byte order, from bytes into lent numbers, as the parsers of the crate job say. The tables are read in the crates
+// reader and fields.
 ghost use mathlib.Core.Path.{_≡_};
 ghost use lib.ListN.{drop};
 ghost use Rattle.job.specs.Layout.{slices};
 ghost use Rattle.job.specs.Load.{jobFields};
 ghost use Rattle.reader.specs.Read.{Stored, ClassesAt, FixedAt};
-ghost use Rattle.fields.specs.Virt.{probeView, probeField};
-ghost use Rattle.fields.specs.Whole.{FirstOut, LastOut, JobOut, JobAt};
-use crate::virt::VirtTable;
-use crate::virt::virt_table;
+ghost use Rattle.whole_fields.specs.Probe.{probeView, probeField};
+ghost use Rattle.whole_fields.specs.Whole.{FirstOut, LastOut, JobOut, JobAt};
+use fields::virt::VirtTable;
+use fields::virt::virt_table;
 use job::JobHeader;
 use job::Probe;
 use reader::fixed::fixed_table;

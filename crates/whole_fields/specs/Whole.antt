@@ -5,12 +5,12 @@ use mathlib.Core.List.{List}
 use mathlib.Core.Option.{Option}
 use lib.ListN.{drop, length}
 use lib.Seq.{sets}
-use Rattle.fields.specs.declared.whole.TableSizes.{TableSizes}
-use Rattle.fields.specs.declared.whole.JobRead.{JobRead}
-use Rattle.fields.specs.declared.whole.JobRead.the-variants.{Is, Refused}
-use Rattle.fields.specs.declared.whole.FirstTables.{FirstTables}
-use Rattle.fields.specs.declared.whole.FirstRead.{FirstRead}
-use Rattle.fields.specs.declared.whole.FirstRead.the-variants.{Is as IsFirst, Refused as NoFirst}
+use Rattle.whole_fields.specs.declared.TableSizes.{TableSizes}
+use Rattle.whole_fields.specs.declared.JobRead.{JobRead}
+use Rattle.whole_fields.specs.declared.JobRead.the-variants.{Is, Refused}
+use Rattle.whole_fields.specs.declared.FirstTables.{FirstTables}
+use Rattle.whole_fields.specs.declared.FirstRead.{FirstRead}
+use Rattle.whole_fields.specs.declared.FirstRead.the-variants.{Is as IsFirst, Refused as NoFirst}
 use Rattle.reg_matrix.specs.Lists.{bit}
 use Rattle.reg_matrix.specs.declared.Entry.{Entry}
 use Rattle.reg_matrix.specs.declared.ValueSegment.{ValueSegment}
@@ -19,7 +19,8 @@ use Rattle.job.specs.Parser.{Parser, Parsed, refused, parsed, _>>=_, done, ifBi
 use Rattle.job.specs.Load.{virtRegAfter}
 use Rattle.job.specs.Layout.{startsFrom, JobSlices, headerOf}
 use Rattle.reader.specs.Read.{tableOf, allMembers, segmentsOfAll}
-use Rattle.fields.specs.Virt.{VirtsAt, probeField, rangeOf}
+use Rattle.fields.specs.Virt.{VirtsAt}
+use Rattle.whole_fields.specs.Probe.{probeField, rangeOf}
 
 -- every table of the job is stored: in B, which is B′ afterwards, and the fixed reservations so
 pub record JobAt (B B′ : JobSlices) (fixed : List Entry → Type 0) (j : Job) : Type 0 where

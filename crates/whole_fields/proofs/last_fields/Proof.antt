@@ -1,9 +1,9 @@
 use borrow.Author.Needs.{needs}
 use mathlib.Core.Path.{refl}
-use Rattle.fields.specs.Whole.{lastOf}
+use Rattle.whole_fields.specs.Whole.{lastOf}
 use Rattle.reader.proofs.Answers.{short-field, took-field, field-small}
-use Rattle.fields.proofs.whole.last_fields.Statement.{statement}
-use Rattle.fields.proofs.whole.last_fields.Tie as tie
+use Rattle.whole_fields.proofs.last_fields.Statement.{statement}
+use Rattle.whole_fields.proofs.last_fields.Tie as tie
 
 probe-range-requires : tie.Need-probe-range-requires
 probe-range-requires c κs = search needs

@@ -1,9 +1,9 @@
 use borrow.Author.Needs.{needs}
 use mathlib.Core.Path.{_∙_}
 use Rattle.job.specs.Layout.{slices}
-use Rattle.fields.proofs.Joined.{virts-refused, all-read}
-use Rattle.fields.proofs.whole.job_fields.Statement.{statement}
-use Rattle.fields.proofs.whole.job_fields.Tie as tie
+use Rattle.whole_fields.proofs.Joined.{virts-refused, all-read}
+use Rattle.whole_fields.proofs.job_fields.Statement.{statement}
+use Rattle.whole_fields.proofs.job_fields.Tie as tie
 
 first-tables-requires : tie.Need-first-tables-requires
 first-tables-requires c κs = search needs

@@ -18,13 +18,14 @@ use Rattle.job.specs.Parser.{Parser, Parsed, refused, parsed, andThen, done, if
 use Rattle.job.specs.Load.{register, class, reservation, virtRegAfter, jobFields}
 use Rattle.job.specs.Layout.{startsFrom, JobSlices, probeOf, headerOf}
 use Rattle.reader.specs.Read.{Stored, ClassesAt, allMembers, tableOf, segmentsOfAll}
-use Rattle.fields.specs.Virt.{probeField, rangeOf, VirtsAt, TableOut}
-use Rattle.fields.specs.Whole.{restOf, lastOf, FirstSizes, FirstOut, LastOut, JobAt, JobOut}
-use Rattle.fields.specs.declared.whole.FirstTables.{FirstTables}
-use Rattle.fields.specs.declared.whole.FirstRead.the-variants.{Is as IsFirst}
+use Rattle.fields.specs.Virt.{VirtsAt, TableOut}
+use Rattle.whole_fields.specs.Probe.{probeField, rangeOf}
+use Rattle.whole_fields.specs.Whole.{restOf, lastOf, FirstSizes, FirstOut, LastOut, JobAt, JobOut}
+use Rattle.whole_fields.specs.declared.FirstTables.{FirstTables}
+use Rattle.whole_fields.specs.declared.FirstRead.the-variants.{Is as IsFirst}
 use Rattle.fields.specs.declared.virt.VirtTable.the-variants.{Is as IsTable}
-use Rattle.fields.specs.declared.whole.JobRead.{JobRead}
-use Rattle.fields.specs.declared.whole.JobRead.the-variants.{Is, Refused}
+use Rattle.whole_fields.specs.declared.JobRead.{JobRead}
+use Rattle.whole_fields.specs.declared.JobRead.the-variants.{Is, Refused}
 
 module _ (l : List ℕ) {l₁ l₂ l₃ l₄ : List ℕ} {m r : ℕ} {rs : List ℕ} {cs : List (List ℕ)} {es : List Entry} where
   -- what is left after the first tables

@@ -3,9 +3,9 @@ use native.Mathlib.Omega.{arith}
 use borrow.Author.Tests.{le-leb, lt-leb}
 use Rattle.job.specs.Load.{jobFields}
 use Rattle.reader.proofs.Answers.{short, took, took-small}
-use Rattle.fields.proofs.Joined.{first-is}
-use Rattle.fields.proofs.whole.first_tables.Statement.{statement}
-use Rattle.fields.proofs.whole.first_tables.Tie as tie
+use Rattle.whole_fields.proofs.Joined.{first-is}
+use Rattle.whole_fields.proofs.first_tables.Statement.{statement}
+use Rattle.whole_fields.proofs.first_tables.Tie as tie
 
 byte-requires : tie.Need-byte-requires
 byte-requires c κs = search needs

@@ -4,8 +4,8 @@ use mathlib.Core.Path.{sym}
 use borrow.Author.Tests.{le-ltb, le-leb, lt-leb, eq-eqb, ne-eqb}
 use Rattle.reader.proofs.Answers.{short, took, took-small}
 use Rattle.job.specs.Load.{range}
-use Rattle.fields.proofs.whole.probe_range.Statement.{statement}
-use Rattle.fields.proofs.whole.probe_range.Tie as tie
+use Rattle.whole_fields.proofs.probe_range.Statement.{statement}
+use Rattle.whole_fields.proofs.probe_range.Tie as tie
 
 word-requires : tie.Need-word-requires
 word-requires c κs = search needs
