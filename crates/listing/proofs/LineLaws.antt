@@ -31,8 +31,9 @@ use Rattle.listing.specs.declared.Place.the-variants.{Head, VirtReg, Ent
 use Rattle.listing.specs.declared.Listing.{Listing}
 use Rattle.listing.specs.declared.Step.{Step}
 use Rattle.listing.specs.declared.Step.the-variants.{Line, Refused, End as NoMore}
-use Rattle.listing.proofs.TextLaws.{number-length, number-short}
-use Rattle.listing.specs.Walk.{lineLimit, Lent, Found, noMore, aLine, standingText, isSpare, unitsText, spareText, isEntry, entryAt, spareFound, entryFound, virtRegFound, foundAt, found, moved, stepOf, printedOn, AnsweredIfLong, recordAt, spareLines, entryLines, virtRegLines, linesAt, linesFrom, linesOf}
+use Rattle.lines.proofs.TextLaws.{number-length, number-short}
+use Rattle.lines.specs.LineTexts.{Lent, standingText, isSpare, unitsText, spareText}
+use Rattle.listing.specs.Walk.{lineLimit, Found, noMore, aLine, isEntry, entryAt, spareFound, entryFound, virtRegFound, foundAt, found, moved, stepOf, printedOn, AnsweredIfLong, recordAt, spareLines, entryLines, virtRegLines, linesAt, linesFrom, linesOf}
 
 -- ---- one by one
 

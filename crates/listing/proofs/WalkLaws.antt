@@ -11,8 +11,9 @@ use Rattle.listing.specs.declared.Place.{Place}
 use Rattle.listing.specs.declared.Listing.{Listing}
 use Rattle.listing.specs.declared.Step.{Step}
 use Rattle.listing.specs.declared.Step.the-variants.{Line}
-use Rattle.listing.specs.Texts.{Appended}
-use Rattle.listing.specs.Walk.{Lent, Found, aLine, spareFound, foundAt, found, moved, Answered}
+use Rattle.lines.specs.Texts.{Appended}
+use Rattle.lines.specs.LineTexts.{Lent}
+use Rattle.listing.specs.Walk.{Found, aLine, spareFound, foundAt, found, moved, Answered}
 
 pub told :
     (c : Listing) {s t text : List ℕ} {n : ℕ} {m : Listing} {p : Place}

@@ -1,9 +1,8 @@
 // The printed sheet line by line, in a small buffer that the caller lends: no buffer holds the whole sheet. Its definitions are those of the crates
-// reg_matrix (Lines) and allocator (Sheet).
+// reg_matrix (Lines) and allocator (Sheet); the crate lines stores each line.
 use allocator::Ending;
 use job::JobHeader;
 
-mod lines;
 pub mod sheet;
 
 // Which line is next: the first, that of a virtual register, or that of an entry of the table. Past the last virtual register the entries are next,

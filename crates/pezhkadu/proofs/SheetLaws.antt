@@ -28,7 +28,8 @@ use Rattle.run_loop.specs.Running.{endingNumber}
 use Rattle.listing.specs.declared.Listing.{Listing}
 use Rattle.listing.specs.declared.Place.{Place}
 use Rattle.listing.specs.declared.Place.the-variants.{Head, VirtReg, Entry, End}
-use Rattle.listing.specs.Walk.{Lent, Found, noMore, aLine, standingText, spareFound, isEntry, entryAt, entryFound, virtRegFound, foundAt, found, moved, numberAt, recordAt, linesFrom, linesOf}
+use Rattle.lines.specs.LineTexts.{Lent, standingText}
+use Rattle.listing.specs.Walk.{Found, noMore, aLine, spareFound, isEntry, entryAt, entryFound, virtRegFound, foundAt, found, moved, numberAt, recordAt, linesFrom, linesOf}
 use Rattle.listing.proofs.LineLaws.{lines-told}
 use Rattle.listing.proofs.SheetLaws.{Laid, together, reached-sheet}
 use Rattle.records.specs.Words.{recordIn, recordsIn}

@@ -10,7 +10,8 @@ use Rattle.reg_matrix.specs.Layout.{greatest}
 use Rattle.listing.specs.declared.Listing.{Listing}
 use Rattle.listing.specs.declared.Step.{Step}
 use Rattle.listing.specs.declared.Step.the-variants.{Line, Refused, End}
-use Rattle.listing.specs.Walk.{Lent, Found, noMore, aLine, lineLimit, found, printedOn, numberAt, linesFrom}
+use Rattle.lines.specs.LineTexts.{Lent}
+use Rattle.listing.specs.Walk.{Found, noMore, aLine, lineLimit, found, printedOn, numberAt, linesFrom}
 use Rattle.records.specs.Words.{recordIn, recordsIn}
 use Rattle.pezhkadu.specs.Words.{headerLimit, headerIn, endingIn, placeIn, placeNumber, standingNumber}
 use Rattle.pezhkadu.specs.Calling.{recordsLimit, assignShort}

@@ -1,7 +1,7 @@
 // Reading results: how a virtual register stands, and the printed sheet line by line.
 ghost use mathlib.Core.Path.{_≡_};
 ghost use lib.Seq.{sets};
-ghost use Rattle.listing.specs.Walk.{lent};
+ghost use Rattle.lines.specs.LineTexts.{lent};
 ghost use Rattle.pezhkadu.specs.Reading.{standingAnswer, listingIn, stepRefusal, stepWords, LineCalled};
 use crate::header::header_of;
 use crate::numbers::ending_of;

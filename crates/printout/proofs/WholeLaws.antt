@@ -21,13 +21,14 @@ use Rattle.allocator.specs.declared.Assignment.{Assignment}
 use Rattle.allocator.specs.Layout.{StateBuffers}
 use Rattle.allocator.specs.Sheet.{printed}
 use Rattle.lent.proofs.Laws.{sets-append}
-use Rattle.listing.specs.Texts.{Appended}
+use Rattle.lines.specs.Texts.{Appended}
 use Rattle.listing.specs.declared.Place.{Place}
 use Rattle.listing.specs.declared.Place.the-variants.{Head, VirtReg, Entry, End}
 use Rattle.listing.specs.declared.Listing.{Listing}
 use Rattle.listing.specs.declared.Step.{Step}
 use Rattle.listing.specs.declared.Step.the-variants.{Line, End as NoMore, Refused as NotListed}
-use Rattle.listing.specs.Walk.{Lent, lent, lineLimit, isEntry, entryAt, spareLines, entryLines, virtRegLines, linesAt, linesFrom}
+use Rattle.lines.specs.LineTexts.{Lent, lent}
+use Rattle.listing.specs.Walk.{lineLimit, isEntry, entryAt, spareLines, entryLines, virtRegLines, linesAt, linesFrom}
 use Rattle.records.specs.Words.{recordsIn}
 use Rattle.sheets.specs.declared.Printing.{Printing}
 use Rattle.sheets.specs.declared.Printing.the-variants.{Refused, At}

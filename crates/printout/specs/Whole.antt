@@ -13,7 +13,8 @@ use Rattle.allocator.specs.Sheet.{sheetOf, printed}
 use Rattle.listing.specs.declared.Listing.{Listing}
 use Rattle.listing.specs.declared.Step.{Step}
 use Rattle.listing.specs.declared.Step.the-variants.{Line, End as NoMore, Refused as NotListed}
-use Rattle.listing.specs.Walk.{Lent, linesFrom}
+use Rattle.lines.specs.LineTexts.{Lent}
+use Rattle.listing.specs.Walk.{linesFrom}
 use Rattle.records.specs.Words.{recordsIn}
 use Rattle.sheets.specs.declared.Printing.{Printing}
 use Rattle.sheets.specs.Printing.{sheetLimits, sheetSizes, loadedWith, Begun}

@@ -42,7 +42,7 @@ use Rattle.calls.specs.Calling.{sizesOf, StateStands, refusalNumber, RunCalled}
 use Rattle.calls.specs.StageLoading.{laterState, laterJob, StageLoadParts, StageLoadDone, firstRecords}
 use Rattle.calls.proofs.StageLoads.{append-short, behindState, laid-state, laid-job, same-header, records-first}
 use Rattle.listing.specs.declared.Listing.{Listing}
-use Rattle.listing.specs.Walk.{lent}
+use Rattle.lines.specs.LineTexts.{lent}
 use Rattle.listing.proofs.SheetLaws.{Laid, reached-sheet}
 use Rattle.records.specs.Words.{recordWord, recordsIn, PlainRecord, AllPlain}
 use Rattle.sheets.specs.declared.Printing.{Printing}

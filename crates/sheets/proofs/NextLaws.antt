@@ -15,7 +15,8 @@ use Rattle.listing.specs.declared.Place.the-variants.{Head, VirtReg, Entry, End
 use Rattle.listing.specs.declared.Listing.{Listing}
 use Rattle.listing.specs.declared.Step.{Step}
 use Rattle.listing.specs.declared.Step.the-variants.{Line, End as NoMore, Refused as NotListed}
-use Rattle.listing.specs.Walk.{Lent, lineLimit, Found, noMore, aLine, found, stepOf, AnsweredIfLong, numberAt, recordAt, linesFrom}
+use Rattle.lines.specs.LineTexts.{Lent}
+use Rattle.listing.specs.Walk.{lineLimit, Found, noMore, aLine, found, stepOf, AnsweredIfLong, numberAt, recordAt, linesFrom}
 use Rattle.listing.proofs.LineLaws.{Room, found-room, Told, next-told}
 use Rattle.records.specs.Words.{recordIn, recordsIn}
 use Rattle.sheets.specs.Printing.{LeftToPrint, NextLine}

@@ -28,7 +28,8 @@ use Rattle.listing.specs.declared.Listing.{Listing}
 use Rattle.listing.specs.declared.Place.the-variants.{Head}
 use Rattle.listing.specs.declared.Step.{Step}
 use Rattle.listing.specs.declared.Step.the-variants.{Line, End as NoMore, Refused as NotListed}
-use Rattle.listing.specs.Walk.{Lent, lent, lineLimit, found, AnsweredIfLong, numberAt, linesFrom}
+use Rattle.lines.specs.LineTexts.{Lent, lent}
+use Rattle.listing.specs.Walk.{lineLimit, found, AnsweredIfLong, numberAt, linesFrom}
 use Rattle.records.specs.Words.{recordWord, recordIn, recordsIn, AllPlain}
 use Rattle.sheets.specs.declared.Printing.{Printing}
 use Rattle.sheets.specs.declared.Printing.the-variants.{Refused, At}

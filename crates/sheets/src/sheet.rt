@@ -2,7 +2,7 @@
 ghost use mathlib.Core.Path.{_≡_};
 ghost use Rattle.job.specs.Layout.{slices};
 ghost use Rattle.run_loop.specs.Running.{lentState};
-ghost use Rattle.listing.specs.Walk.{lent};
+ghost use Rattle.lines.specs.LineTexts.{lent};
 ghost use Rattle.sheets.specs.Printing.{endingOf, RunStored, Begun, NextLine};
 use crate::Printing;
 use allocator::Ending;

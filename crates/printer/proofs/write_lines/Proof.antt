@@ -3,7 +3,8 @@ use borrow.Author.Needs.{needs}
 use Prim.Native.Nat.{_≤_}
 use mathlib.Core.Path.{_≡_}
 use lib.ListN.{length}
-use Rattle.listing.specs.Walk.{lent, linesFrom}
+use Rattle.lines.specs.LineTexts.{lent}
+use Rattle.listing.specs.Walk.{linesFrom}
 use Rattle.records.specs.Words.{recordsIn}
 use Rattle.sheets.proofs.NextLaws.{next-fewer}
 use Rattle.printer.proofs.write_lines.Statement.{statement}

@@ -4,7 +4,8 @@ use Prim.Native.Nat.{_≤_}
 use native.Mathlib.Omega.{arith}
 use mathlib.Core.Path.{_≡_, refl, _∙_}
 use lib.ListN.{length}
-use Rattle.listing.specs.Walk.{lent, linesFrom}
+use Rattle.lines.specs.LineTexts.{lent}
+use Rattle.listing.specs.Walk.{linesFrom}
 use Rattle.records.specs.Words.{recordsIn}
 use Rattle.printout.proofs.WholeLaws.{PrintedTo, print-start, end-of, room-for, fewer-left, more-of}
 use Rattle.printout.proofs.print_from.Statement.{statement}

@@ -1,5 +1,5 @@
 use borrow.Author.Needs.{needs}
-use Rattle.listing.specs.Walk.{lent}
+use Rattle.lines.specs.LineTexts.{lent}
 use Rattle.listing.proofs.WalkLaws as laws
 use Rattle.listing.proofs.Listing.next_free_units.Statement.{statement}
 use Rattle.listing.proofs.Listing.next_free_units.Tie as tie

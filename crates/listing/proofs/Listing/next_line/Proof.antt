@@ -1,6 +1,6 @@
 use borrow.Author.Needs.{needs}
 use mathlib.Core.Path.{refl}
-use Rattle.listing.specs.Walk.{lent}
+use Rattle.lines.specs.LineTexts.{lent}
 use Rattle.listing.proofs.WalkLaws as laws
 use Rattle.listing.proofs.Listing.next_line.Statement.{statement}
 use Rattle.listing.proofs.Listing.next_line.Tie as tie

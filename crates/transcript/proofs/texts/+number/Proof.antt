@@ -5,7 +5,7 @@ use native.Mathlib.Omega.{arith}
 use mathlib.Core.Path.{sym}
 use borrow.Fn.Kinds.{In}
 use borrow.Fn.PlainCycle.{Measures, is, falls, and}
-use Rattle.listing.proofs.TextLaws.{number-one, number-more}
+use Rattle.lines.proofs.TextLaws.{number-one, number-more}
 use Rattle.transcript.proofs.StoreLaws as laws
 use Rattle.transcript.proofs.texts.number.Reads as number
 use Rattle.transcript.proofs.texts.number.Kinds as number-kinds

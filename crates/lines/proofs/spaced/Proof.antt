@@ -1,0 +1,20 @@
+use borrow.Author.Needs.{needs}
+use native.Mathlib.Omega.{arith}
+use Rattle.lines.proofs.TextLaws as laws
+use Rattle.lines.proofs.spaced.Statement.{statement}
+use Rattle.lines.proofs.spaced.Tie as tie
+
+byte-requires : tie.Need-byte-requires
+byte-requires c κs = search needs
+
+number-requires : tie.Need-number-requires
+number-requires c κs = search needs
+
+same-length : tie.Need-same-length
+same-length c = search needs
+
+returns : tie.Need-returns
+returns c = (laws.then (c .before .before .before .before .before .before .byte .ensures) (c .before .before .number .ensures .0), omega (arith, c .before .before .before .before .before .before .byte .ensures .place, c .before .before .number .ensures .1))
+
+pub spaced-spec : {M : Type 1} → statement M
+spaced-spec = tie.close (tie.spec byte-requires number-requires same-length returns)

@@ -1,0 +1,246 @@
+// The lines of the sheet (01, "The printed sheet"), each stored from the front of a lent line. What a line has no room for is not stored. Which line
+// is next, the crate listing says.
+ghost use mathlib.Core.Path.{_≡_};
+ghost use mathlib.Core.List.{[], _∷_};
+ghost use mathlib.Core.Bool.{cond};
+ghost use Prim.Native.Nat.{_+_, _≤_, _<_};
+ghost use lib.ListN.{length};
+ghost use Rattle.reg_matrix.specs.Lines.{number as decimal, sp, refusedLine, indexText, reservationText, entryLine};
+ghost use Rattle.allocator.specs.Sheet.{endWord, endLine, standing as standingOf};
+ghost use Rattle.lines.specs.Texts.{Appended};
+ghost use Rattle.lines.specs.LineTexts.{lent, standingText, isRegisterUnit, isFree, isSpare, spareText};
+use allocator::Assignment;
+use allocator::Ending;
+use entries::UnitFree;
+use entries::unit_free::is_unit_free;
+use lent::at;
+use lent::at8;
+use lent::put8;
+use reg_matrix::Entry;
+use reg_matrix::FixedIndex;
+use reg_matrix::Reservation;
+
+// Stores a text from place `at` on, and gives the place after it.
+fn text(line: &mut [u8], at: usize, bytes: &[u8]) -> usize
+    requires { ⌜ at + length (now bytes) < 4096 ⌝ }
+    ensures { λ r. ⌜ Appended (now (line .entry)) at (now (bytes .entry)) (now (line .exit)) r ⌝ }
+{
+    let mut i = 0;
+    while i < bytes.len() {
+        put8(line, at + i, at8(bytes, i));
+        i += 1;
+    }
+    at + i
+}
+
+// The same of one byte.
+fn byte(line: &mut [u8], at: usize, b: u8) -> usize
+    requires { ⌜ at < 4096 ⌝ }
+    ensures { λ r. ⌜ Appended (now (line .entry)) at (b ∷ []) (now (line .exit)) r ⌝ }
+{
+    put8(line, at, b);
+    at + 1
+}
+
+// The same of a number's decimal digits.
+fn number(line: &mut [u8], at: usize, n: u64) -> usize
+    requires { ⌜ at < 2048 ⌝ }
+    ensures { λ r. ⌜ Appended (now (line .entry)) at (decimal n) (now (line .exit)) r × (r ≤ at + 20) ⌝ }
+{
+    // 48 is the digit 0
+    let last = (48 + n % 10) as u8;
+    if n < 10 {
+        return byte(line, at, last);
+    }
+    let next = number(line, at, n / 10);
+    byte(line, next, last)
+}
+
+// The same of a space and a number.
+fn spaced(line: &mut [u8], at: usize, n: u64) -> usize
+    requires { ⌜ at < 2000 ⌝ }
+    ensures { λ r. ⌜ Appended (now (line .entry)) at (sp (decimal n)) (now (line .exit)) r × (r ≤ at + 21) ⌝ }
+{
+    let next = byte(line, at, b' ');
+    number(line, next, n)
+}
+
+fn end_word(line: &mut [u8], at: usize, ending: Ending) -> usize
+    requires { ⌜ at < 1000 ⌝ }
+    ensures { λ r. ⌜ Appended (now (line .entry)) at (endWord ending) (now (line .exit)) r × (r ≤ at + 7) ⌝ }
+{
+    match ending {
+        Ending::Done => text(line, at, b"done"),
+        Ending::Spent => text(line, at, b"spent"),
+        Ending::TooMany => text(line, at, b"toomany"),
+    }
+}
+
+// `end WORD DEQUEUES`.
+pub fn end_line(line: &mut [u8], ending: Ending, dequeues: u64) -> usize
+    ensures { λ r. ⌜ Appended (now (line .entry)) 0 (endLine ending dequeues) (now (line .exit)) r ⌝ }
+{
+    let a = text(line, 0, b"end ");
+    let b = end_word(line, a, ending);
+    let c = spaced(line, b, dequeues);
+    byte(line, c, b'\n')
+}
+
+// `refused N`.
+pub fn refused_line(line: &mut [u8], n: u8) -> usize
+    ensures { λ r. ⌜ Appended (now (line .entry)) 0 (refusedLine n) (now (line .exit)) r ⌝ }
+{
+    let a = text(line, 0, b"refused ");
+    let b = number(line, a, n as u64);
+    byte(line, b, b'\n')
+}
+
+fn standing(line: &mut [u8], at: usize, assignment: Assignment) -> usize
+    requires { ⌜ at < 1000 ⌝ }
+    ensures { λ r. ⌜ Appended (now (line .entry)) at (standingOf assignment) (now (line .exit)) r × (r ≤ at + 25) ⌝ }
+{
+    match assignment {
+        Assignment::Assigned {
+            evicted_for_preference: _,
+            reg,
+            preference_weight: _,
+        } => {
+            let next = text(line, at, b" reg ");
+            number(line, next, reg as u64)
+        }
+        Assignment::Unassigned {
+            evicted_for_preference: _,
+        } => text(line, at, b" wait"),
+        Assignment::Dead => text(line, at, b" left"),
+    }
+}
+
+// `v N reg R`, `v N left` or `v N wait`.
+pub fn standing_line(line: &mut [u8], v: u16, assignment: Assignment) -> usize
+    ensures { λ r. ⌜ Appended (now (line .entry)) 0 (standingText v assignment) (now (line .exit)) r ⌝ }
+{
+    let a = text(line, 0, b"v ");
+    let b = number(line, a, v as u64);
+    let c = standing(line, b, assignment);
+    byte(line, c, b'\n')
+}
+
+fn index(line: &mut [u8], at: usize, i: FixedIndex) -> usize
+    requires { ⌜ at < 1000 ⌝ }
+    ensures { λ r. ⌜ Appended (now (line .entry)) at (sp (indexText i)) (now (line .exit)) r × (r ≤ at + 21) ⌝ }
+{
+    match i {
+        FixedIndex::NoIndex => text(line, at, b" -"),
+        FixedIndex::At(n) => spaced(line, at, n as u64),
+    }
+}
+
+fn reservation(line: &mut [u8], at: usize, held: Reservation) -> usize
+    requires { ⌜ at < 500 ⌝ }
+    ensures { λ r. ⌜ Appended (now (line .entry)) at (reservationText held) (now (line .exit)) r × (r ≤ at + 47) ⌝ }
+{
+    match held {
+        Reservation::Held(v, i) => {
+            let a = text(line, at, b" held ");
+            let b = number(line, a, v as u64);
+            index(line, b, i)
+        }
+        Reservation::FixedUse(x) => {
+            let a = text(line, at, b" use ");
+            number(line, a, x as u64)
+        }
+        Reservation::FixedDef => text(line, at, b" def"),
+    }
+}
+
+// `u U FROM TO held N I`, `u U FROM TO use V` or `u U FROM TO def`.
+pub fn entry_line(line: &mut [u8], entry: Entry) -> usize
+    ensures { λ r. ⌜ Appended (now (line .entry)) 0 (entryLine entry) (now (line .exit)) r ⌝ }
+{
+    let a = text(line, 0, b"u ");
+    let b = number(line, a, entry.unit as u64);
+    let c = spaced(line, b, entry.from as u64);
+    let d = spaced(line, c, entry.to as u64);
+    let held = entry.reservation;
+    let e = reservation(line, d, held);
+    byte(line, e, b'\n')
+}
+
+// Whether a unit is one of those of the first `regs` registers.
+fn is_register_unit(maps: &[u64], regs: u8, unit: u8) -> bool
+    requires { ⌜ unit < 64 ⌝ }
+    ensures { λ r. ⌜ r ≡ isRegisterUnit (now (maps .entry)) regs unit ⌝ }
+{
+    let u = unit as u64;
+    let n = regs as usize;
+    let mut i = 0;
+    while i < n {
+        if (at(maps, i) >> u) % 2 == 1 {
+            return true;
+        }
+        i += 1;
+    }
+    false
+}
+
+fn is_free(answer: UnitFree) -> bool
+    ensures { λ r. ⌜ r ≡ isFree answer ⌝ }
+{
+    match answer {
+        UnitFree::Free => true,
+        UnitFree::Taken => false,
+        UnitFree::NotAsked(_) => false,
+    }
+}
+
+// Whether the spare line has a unit.
+fn is_free_register_unit(
+    maps: &[u64],
+    regs: u8,
+    ends: &[u64],
+    rests: &[u64],
+    from: u32,
+    to: u32,
+    unit: u8,
+) -> bool
+    requires { ⌜ unit < 64 ⌝ }
+    ensures { λ r. ⌜ r ≡ isSpare (lent (now (maps .entry)) (now (ends .entry)) (now (rests .entry))) regs from to unit ⌝ }
+{
+    if is_register_unit(maps, regs, unit) {
+        return is_free(is_unit_free(ends, rests, unit, from, to));
+    }
+    false
+}
+
+// A unit of the spare line, where it is spare.
+fn free_unit(line: &mut [u8], at: usize, unit: u8, spare: bool) -> usize
+    requires { ⌜ (at < 2000) × (unit < 64) ⌝ }
+    ensures { λ r. ⌜ Appended (now (line .entry)) at (cond spare (sp (decimal unit)) []) (now (line .exit)) r × (r ≤ at + 3) ⌝ }
+{
+    if spare {
+        return spaced(line, at, unit as u64);
+    }
+    at
+}
+
+// `spare` and the units of the first `regs` registers that are spare from `from` to `to`.
+pub fn free_units_line(
+    line: &mut [u8],
+    maps: &[u64],
+    regs: u8,
+    ends: &[u64],
+    rests: &[u64],
+    from: u32,
+    to: u32,
+) -> usize
+    ensures { λ r. ⌜ Appended (now (line .entry)) 0 (spareText (lent (now (maps .entry)) (now (ends .entry)) (now (rests .entry))) regs from to) (now (line .exit)) r ⌝ }
+{
+    let mut at = text(line, 0, b"spare");
+    let mut unit: u8 = 0;
+    while unit < 64 {
+        let spare = is_free_register_unit(maps, regs, ends, rests, from, to, unit);
+        at = free_unit(line, at, unit, spare);
+        unit += 1;
+    }
+    byte(line, at, b'\n')
+}
