@@ -31,7 +31,7 @@ use Rattle.run_loop.specs.Running.{endingNumber}
 use Rattle.calls.specs.Calling as calling
 use Rattle.calls.specs.Calling.{sizesOf, refusalNumber, StateStands}
 use Rattle.records.specs.Words.{recordWord, recordsIn, PlainRecord, AllPlain}
-use Rattle.pezhkadu.specs.Words.{headerIn}
+use Rattle.words.specs.Words.{headerIn}
 use Rattle.pezhkadu.specs.Calling.{Called, RunCalled, runShort}
 
 pub not-both : false ≡ true → ⊥

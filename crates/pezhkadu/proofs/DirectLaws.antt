@@ -28,9 +28,9 @@ use Rattle.calls.specs.Calling as calling
 use Rattle.calls.specs.Calling.{sizesOf, refusalNumber, valueNumber, StateStands}
 use Rattle.call_tests.proofs.RefusalLaws.{placing-tests, evicting-tests}
 use Rattle.records.specs.Words.{recordWord, recordsIn, AllPlain}
-use Rattle.pezhkadu.specs.Words.{headerIn, cut}
+use Rattle.words.specs.Words.{headerIn, cut}
 use Rattle.pezhkadu.specs.Calling.{Called, assignShort, evictShort, EvictCalled}
-use Rattle.pezhkadu.proofs.NumberLaws.{uncut, cut-off}
+use Rattle.words.proofs.NumberLaws.{uncut, cut-off}
 use Rattle.pezhkadu.proofs.CallLaws.{own-short, call-refused, call-done}
 
 -- ---- cut numbers

@@ -1,5 +1,3 @@
-pub mod HeaderLaws
-pub mod NumberLaws
 pub mod CallLaws
 pub mod RunLaws
 pub mod LoadLaws

@@ -19,7 +19,7 @@ use Rattle.loader.specs.declared.load.JobLoaded.the-variants.{Is, Refused}
 use Rattle.calls.specs.Calling.{sizesOf}
 use Rattle.calls.specs.StageLoading.{StageLoadParts, StageLoadDone, firstRecords}
 use Rattle.records.specs.Words.{recordWord}
-use Rattle.pezhkadu.specs.Words.{headerWords}
+use Rattle.words.specs.Words.{headerWords}
 use Rattle.pezhkadu.specs.Loading.{loadShort, LoadParts, LoadCalled}
 
 abbrev isIs : JobLoaded → Bool

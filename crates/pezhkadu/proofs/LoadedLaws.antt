@@ -34,7 +34,7 @@ use Rattle.calls.specs.StageLoading.{laterState, laterJob, StageLoadParts, Stag
 use Rattle.calls.specs.Trace as trace
 use Rattle.calls.proofs.StageLoads.{just-loaded}
 use Rattle.records.specs.Words.{recordWord, recordIn, recordsIn}
-use Rattle.pezhkadu.specs.Words.{probeWords, headerWords, probeIn, headerIn}
+use Rattle.words.specs.Words.{probeWords, headerWords, probeIn, headerIn}
 use Rattle.pezhkadu.specs.Loading.{loadShort, LoadParts, LoadCalled, JustLoaded}
 use Rattle.pezhkadu.proofs.CallLaws.{not-both}
 use Rattle.pezhkadu.proofs.RefusalNumbers.{not-zero}

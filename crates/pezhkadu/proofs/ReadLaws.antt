@@ -18,7 +18,7 @@ use Rattle.listing.specs.declared.Step.the-variants.{Line, Refused, End}
 use Rattle.lines.specs.LineTexts.{Lent}
 use Rattle.listing.specs.Walk.{Found, noMore, aLine, lineLimit, found, stepOf, printedOn, AnsweredIfLong, numberAt}
 use Rattle.records.specs.Words.{recordIn}
-use Rattle.pezhkadu.specs.Words.{headerIn, endingIn, placeIn, placeNumber, standingNumber}
+use Rattle.words.specs.Words.{headerIn, endingIn, placeIn, placeNumber, standingNumber}
 use Rattle.pezhkadu.specs.Reading.{standingAnswer, listingIn, nextWords, stepWords, stepRefusal, lineShort, foundIn, LineCalled}
 
 -- ---- how a virtual register stands

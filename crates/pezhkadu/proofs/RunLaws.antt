@@ -13,7 +13,7 @@ use Rattle.allocator.specs.declared.Assignment.{Assignment}
 use Rattle.allocator.specs.Layout.{StateBuffers}
 use Rattle.calls.specs.Calling as calling
 use Rattle.records.specs.Words.{recordWord, recordsIn, AllPlain}
-use Rattle.pezhkadu.specs.Words.{headerIn}
+use Rattle.words.specs.Words.{headerIn}
 use Rattle.pezhkadu.specs.Calling.{Called, RunCalled, runShort}
 use Rattle.pezhkadu.proofs.CallLaws.{own-short, call-refused, call-done}
 

@@ -33,10 +33,10 @@ use Rattle.listing.specs.Walk.{Found, noMore, aLine, spareFound, isEntry, entry
 use Rattle.listing.proofs.LineLaws.{lines-told}
 use Rattle.listing.proofs.SheetLaws.{Laid, together, reached-sheet}
 use Rattle.records.specs.Words.{recordIn, recordsIn}
-use Rattle.pezhkadu.specs.Words.{headerIn, endingIn, placeNumber, placeIn, standingNumber}
+use Rattle.words.specs.Words.{headerIn, endingIn, placeNumber, placeIn, standingNumber}
 use Rattle.pezhkadu.specs.Calling.{assignShort}
 use Rattle.pezhkadu.specs.Reading.{standingAnswer, listingIn, foundIn, linesAt, linesAfter}
-use Rattle.pezhkadu.proofs.NumberLaws.{at-virt-reg, at-entry}
+use Rattle.words.proofs.NumberLaws.{at-virt-reg, at-entry}
 use Rattle.pezhkadu.proofs.ReadLaws.{place-is}
 
 -- ---- records

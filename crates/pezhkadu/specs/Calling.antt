@@ -18,7 +18,7 @@ use Rattle.context.specs.Standing.{JobStands}
 use Rattle.run_loop.specs.Running.{endingNumber}
 use Rattle.calls.specs.Calling.{sizesOf, refusalNumber, valueNumber, StateStands}
 use Rattle.records.specs.Words.{recordsIn}
-use Rattle.pezhkadu.specs.Words.{headerLimit, headerIn}
+use Rattle.words.specs.Words.{headerLimit, headerIn}
 
 -- layout: the words that the records take
 abbrev pub recordsLimit : ℕ

@@ -1,4 +1,3 @@
-pub mod Words
 pub mod Calling
 pub mod Loading
 pub mod Reading

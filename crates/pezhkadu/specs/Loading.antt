@@ -17,7 +17,7 @@ use Rattle.context.specs.Standing.{JobStands}
 use Rattle.calls.specs.Calling.{sizesOf, StateStands}
 use Rattle.calls.specs.StageLoading.{laterState, laterJob, firstRecords}
 use Rattle.records.specs.Words.{recordWord, recordsIn}
-use Rattle.pezhkadu.specs.Words.{headerLimit, headerWords, headerIn}
+use Rattle.words.specs.Words.{headerLimit, headerWords, headerIn}
 use Rattle.pezhkadu.specs.Calling.{recordsLimit}
 
 -- the words of the header or of the records are short

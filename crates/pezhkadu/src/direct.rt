@@ -6,13 +6,13 @@ ghost use Rattle.run_loop.specs.Running.{lentState};
 ghost use Rattle.allocator.specs.Calls.{placing};
 ghost use Rattle.calls.specs.Calling.{sizesOf};
 ghost use Rattle.pezhkadu.specs.Calling.{Called, assignShort, EvictCalled};
-use crate::header::header_of;
-use crate::numbers::cut8;
-use crate::numbers::cut16;
-use crate::numbers::cut32;
 use lent::put;
 use records::read;
 use records::store;
+use words::header::header_of;
+use words::numbers::cut8;
+use words::numbers::cut16;
+use words::numbers::cut32;
 
 // Places the virtual register v in the register, with the weight of these binary32 bits. The answer is 0, or the number of the refusal, and then
 // nothing is changed: 15 where a slice is short, 8 where there is no such number or register or v may not have it, 9 where the weight is infinite, no

@@ -3,12 +3,12 @@ ghost use mathlib.Core.Path.{_≡_};
 ghost use Rattle.job.specs.Layout.{slices};
 ghost use Rattle.run_loop.specs.Running.{lentState};
 ghost use Rattle.pezhkadu.specs.Loading.{LoadCalled};
-use crate::header::store_header;
-use crate::numbers::wide;
 use calls::loads::first_records;
 use calls::loads::load;
 use loader::load::JobLoaded;
 use records::store;
+use words::header::store_header;
+use words::numbers::wide;
 
 // Loads the job of these bytes: its header and the records as they start out into words, the job, the table, the queue and the last registers into
 // the other slices. The answer is 0, or the number of the refusal, and then nothing is changed: 15 where a slice is short, then the job's length (4),

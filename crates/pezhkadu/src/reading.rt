@@ -3,19 +3,19 @@ ghost use mathlib.Core.Path.{_≡_};
 ghost use lib.Seq.{sets};
 ghost use Rattle.lines.specs.LineTexts.{lent};
 ghost use Rattle.pezhkadu.specs.Reading.{standingAnswer, listingIn, stepRefusal, stepWords, LineCalled};
-use crate::header::header_of;
-use crate::numbers::ending_of;
-use crate::numbers::place_number;
-use crate::numbers::place_of;
-use crate::numbers::size_number;
-use crate::numbers::standing_number;
-use crate::numbers::wide;
-use crate::numbers::wide16;
 use lent::at;
 use lent::put;
 use listing::Listing;
 use listing::Step;
 use records::record_of;
+use words::header::header_of;
+use words::numbers::ending_of;
+use words::numbers::place_number;
+use words::numbers::place_of;
+use words::numbers::size_number;
+use words::numbers::standing_number;
+use words::numbers::wide;
+use words::numbers::wide16;
 
 // How the virtual register v stands: 0 it waits, 1 it is left over, 256 + r it holds the register r. Refused with 15 where a slice is short, with 8
 // where there is no such number.
