@@ -6,6 +6,7 @@ use mathlib.Core.List.{List, [], _∷_, _++_}
 use mathlib.Core.Option.{Option, none, some}
 use mathlib.Core.Bool.{Bool, true, false, not, _&&_, _||_}
 use lib.Dec.{T, ltb}
+use lib.Ieee.{Float}
 use lib.ListN.{getD}
 use Rattle.reg_matrix.specs.Lists.{isSome, foldl}
 use Rattle.job.specs.Model.{Job}
@@ -26,13 +27,13 @@ use Rattle.allocator.proofs.Records.{give-records, leave-records, requeue-recor
 use Rattle.stage.proofs.ReachedSearch.{record-read}
 use Rattle.queue.specs.QueueWalk.{keyOf, setWord}
 use Rattle.context.specs.Standing.{Stands}
-use Rattle.context.specs.Slices.{RecordBuffers, recordBuffers, recordAt, setRecord}
+use Rattle.context.specs.Slices.{RecordBuffers, lentRecords, recordBuffers, recordAt, setRecord}
 use Rattle.context.proofs.SliceLaws.{free, at-back, set-back}
 use Rattle.decisions.specs.declared.Fate.{Fate}
 use Rattle.decisions.specs.declared.Fate.the-variants.{Leaves, Takes, Evicts, Splits, Fails}
 use Rattle.decisions.specs.declared.Decided.{Decided}
 use Rattle.decisions.specs.Deciding.{members, decisionBy, decisionOf, flagIn, givenRecord}
-use Rattle.context.specs.Carrying.{EvictReads, TakeReads, EvictedAll, Taken, Settled, CarriedOut}
+use Rattle.context.specs.Carrying.{EvictReads, TakeReads, EvictedAll, Taken, Settled, isEvicting, isTaking, PassedParts, PassedBy, CarriedOut}
 use Rattle.context.proofs.CarryLaws.{unqueued, queued-at}
 
 -- a decision by the fate
@@ -93,6 +94,76 @@ module _ (d : Decided) (v : ℕ) (rs : RecordBuffers) (maps uses sets starts fro
             );
       }
 
+-- ---- no register is taken
+
+module _ (f : Fate) (v : ℕ) (rs : RecordBuffers) (sizes hints queue : List ℕ) (rs′ : RecordBuffers) (queue′ : List ℕ) where
+  abbrev Passes : Type 0
+  Passes = PassedBy f v rs sizes hints queue rs′ queue′
+
+  passed : (x : Fate) → f ≡ x → PassedParts x v rs sizes hints queue rs′ queue′ → Passes
+  passed x e p = record { parts = subst (λ (y : Fate). PassedParts y v rs sizes hints queue rs′ queue′) (sym e) p }
+
+  pub passed-leaves : f ≡ Leaves → queue′ ≡ setWord v 0 queue → rs′ ≡ setRecord rs v Dead → Passes
+  passed-leaves e p r = passed Leaves e (p, r)
+
+  pub passed-splits :
+      f ≡ Splits
+      → (h : Bool) (z : ℕ)
+      → h ≡ ltb (getD hints v 0) (getD hints (v + 1) 0)
+      → z ≡ getD sizes v 0
+      → queue′ ≡ setWord v (keyOf v h z Split + 1) queue
+      → rs′ ≡ rs
+      → Passes
+  passed-splits e h z ph pz p r =
+      passed Splits e
+      (p ∙ ap (λ (b : Bool). setWord v (keyOf v b z Split + 1) queue) ph ∙ ap (λ (n : ℕ). setWord v (keyOf v (ltb (getD hints v 0) (getD hints (v + 1) 0)) n Split + 1) queue) pz, r)
+
+  pub passed-fails : f ≡ Fails → queue′ ≡ setWord v 0 queue → rs′ ≡ rs → Passes
+  passed-fails e p r = passed Fails e (p, r)
+
+  pub not-takes : f ≡ Takes → Passes
+  not-takes e = passed Takes e tt
+
+  pub not-evicts : f ≡ Evicts → Passes
+  not-evicts e = passed Evicts e tt
+
+-- ---- others are evicted first, or nothing changes
+
+pub record Cleared (evicts : Bool) (gone : List Bool) (rs : RecordBuffers) (maps uses sizes hints starts tos ends rests queue : List ℕ) (rs₁ : RecordBuffers) (ends₁ rests₁ queue₁ : List ℕ) : Type 0 where
+  pub evicted : evicts ≡ true → EvictedAll gone rs maps uses sizes hints starts tos ends rests queue rs₁ ends₁ rests₁ queue₁
+  pub stayed : evicts ≡ false → (rs₁ ≡ rs) × (ends₁ ≡ ends) × (rests₁ ≡ rests) × (queue₁ ≡ queue)
+
+module _ (e : Bool) (gone : List Bool) (maps uses sizes hints starts tos : List ℕ) where
+  pub cleared-evicts :
+      (rs : RecordBuffers) (ends rests queue : List ℕ)
+      → (ks gs : List ℕ) (ws : List Float) (ends₂ rests₂ queue₂ : List ℕ)
+      → (ks₁ gs₁ : List ℕ) (ws₁ : List Float) (ends₁ rests₁ queue₁ : List ℕ)
+      → e ≡ true
+      → EvictedAll gone rs maps uses sizes hints starts tos ends rests queue (lentRecords ks gs ws) ends₂ rests₂ queue₂
+      → ends₁ ≡ ends₂
+      → rests₁ ≡ rests₂
+      → queue₁ ≡ queue₂
+      → ks₁ ≡ ks
+      → gs₁ ≡ gs
+      → ws₁ ≡ ws
+      → Cleared e gone rs maps uses sizes hints starts tos ends rests queue (lentRecords ks₁ gs₁ ws₁) ends₁ rests₁ queue₁
+  cleared-evicts rs ends rests queue ks gs ws ends₂ rests₂ queue₂ ks₁ gs₁ ws₁ ends₁ rests₁ queue₁ on ea pe pr pq pk pg pw =
+      record { evicted = λ x. rw (pe, pr, pq, pk, pg, pw) ea; stayed = λ x. absurd (subst T (sym on ∙ x) tt) }
+
+  pub cleared-stays :
+      (ks gs : List ℕ) (ws : List Float) (ends rests queue : List ℕ)
+      → (ks₁ gs₁ : List ℕ) (ws₁ : List Float) (ends₁ rests₁ queue₁ : List ℕ)
+      → e ≡ false
+      → ends₁ ≡ ends
+      → rests₁ ≡ rests
+      → queue₁ ≡ queue
+      → ks₁ ≡ ks
+      → gs₁ ≡ gs
+      → ws₁ ≡ ws
+      → Cleared e gone (lentRecords ks gs ws) maps uses sizes hints starts tos ends rests queue (lentRecords ks₁ gs₁ ws₁) ends₁ rests₁ queue₁
+  cleared-stays ks gs ws ends rests queue ks₁ gs₁ ws₁ ends₁ rests₁ queue₁ off pe pr pq pk pg pw =
+      record { evicted = λ x. absurd (subst T (sym x ∙ off) tt); stayed = λ x. (rw (pk, pg, pw) refl, pe, pr, pq) }
+
 -- ---- a decision
 
 module _ (d : Decided) (v : ℕ) (rs : RecordBuffers) (maps uses sets sizes hints starts froms tos ends rests queue last : List ℕ) where
@@ -115,7 +186,7 @@ module _ (d : Decided) (v : ℕ) (rs : RecordBuffers) (maps uses sets sizes hint
       }
 
   -- left over
-  pub carried-leaves : d .fate ≡ Leaves → (queue′ : List ℕ) → queue′ ≡ setWord v 0 queue → (rs′ : RecordBuffers) → rs′ ≡ setRecord rs v Dead → Out rs′ ends rests queue′ last
+  carried-leaves : d .fate ≡ Leaves → (queue′ : List ℕ) → queue′ ≡ setWord v 0 queue → (rs′ : RecordBuffers) → rs′ ≡ setRecord rs v Dead → Out rs′ ends rests queue′ last
   unfolding leave carryOut
   carried-leaves x queue′ pq rs′ pr =
       outcome rs′ ends rests queue′ last
@@ -143,7 +214,7 @@ module _ (d : Decided) (v : ℕ) (rs : RecordBuffers) (maps uses sets sizes hint
       }
 
   -- back to the queue at stage Split
-  pub carried-splits :
+  carried-splits :
       d .fate ≡ Splits
       → (h : Bool) (z : ℕ)
       → h ≡ ltb (getD hints v 0) (getD hints (v + 1) 0)
@@ -165,7 +236,7 @@ module _ (d : Decided) (v : ℕ) (rs : RecordBuffers) (maps uses sets sizes hint
       ))
 
   -- off the queue, and the run ends
-  pub carried-fails : d .fate ≡ Fails → (queue′ : List ℕ) → queue′ ≡ setWord v 0 queue → Out rs ends rests queue′ last
+  carried-fails : d .fate ≡ Fails → (queue′ : List ℕ) → queue′ ≡ setWord v 0 queue → Out rs ends rests queue′ last
   unfolding requeue carryOut
   carried-fails x queue′ pq =
       outcome rs ends rests queue′ last
@@ -177,7 +248,7 @@ module _ (d : Decided) (v : ℕ) (rs : RecordBuffers) (maps uses sets sizes hint
       ))
 
   -- a clear register is taken
-  pub carried-takes :
+  carried-takes :
       d .fate ≡ Takes
       → (rs′ : RecordBuffers) (ends′ rests′ queue′ last′ : List ℕ)
       → Settled d v rs maps uses sets starts froms tos ends rests queue last rs′ ends′ rests′ queue′ last′
@@ -196,7 +267,7 @@ module _ (d : Decided) (v : ℕ) (rs : RecordBuffers) (maps uses sets sizes hint
       }
 
   -- a register is taken from its holders
-  pub carried-evicts :
+  carried-evicts :
       d .fate ≡ Evicts
       → (rs₁ : RecordBuffers) (ends₁ rests₁ queue₁ : List ℕ)
       → EvictedAll (d .evicted) rs maps uses sizes hints starts tos ends rests queue rs₁ ends₁ rests₁ queue₁
@@ -218,3 +289,41 @@ module _ (d : Decided) (v : ℕ) (rs : RecordBuffers) (maps uses sets sizes hint
             let step = by-fate d Evicts (takes (d .to) (d .flag) vs) x refl j s v q dec ∙ took j s v (d .to) (d .flag) vs in
             (subst (λ (z : State). Stands j z t ends′ rests′ queue′ last′) (sym step) (o .0), o .1 ∙ ap (λ (x : State). recordBuffers (records x)) (sym step));
       }
+
+  -- a register is taken, whoever is in the way evicted before
+  pub carried-settled :
+      (t e : Bool)
+      → t ≡ isTaking (d .fate)
+      → t ≡ true
+      → e ≡ isEvicting (d .fate)
+      → (rs₁ : RecordBuffers) (ends₁ rests₁ queue₁ : List ℕ) (rs′ : RecordBuffers) (ends′ rests′ queue′ last′ : List ℕ)
+      → Settled d v rs₁ maps uses sets starts froms tos ends₁ rests₁ queue₁ last rs′ ends′ rests′ queue′ last′
+      → Cleared e (d .evicted) rs maps uses sizes hints starts tos ends rests queue rs₁ ends₁ rests₁ queue₁
+      → Out rs′ ends′ rests′ queue′ last′
+  carried-settled t e is-t on is-e rs₁ ends₁ rests₁ queue₁ rs′ ends′ rests′ queue′ last′ se cl = go (d .fate) refl (subst T (sym on ∙ is-t) tt) is-e
+    where
+      go : (x : Fate) → d .fate ≡ x → T (isTaking x) → e ≡ isEvicting x → Out rs′ ends′ rests′ queue′ last′
+      go Leaves f y k = absurd y
+      go Takes f y k =
+          let q = cl .stayed k in
+          carried-takes f rs′ ends′ rests′ queue′ last′ (rw (← q .0, ← q .1, ← q .2, ← q .3) se)
+      go Evicts f y k = carried-evicts f rs₁ ends₁ rests₁ queue₁ (cl .evicted k) rs′ ends′ rests′ queue′ last′ se
+      go Splits f y k = absurd y
+      go Fails f y k = absurd y
+
+  -- no register is taken
+  pub carried-passed :
+      (t : Bool)
+      → t ≡ isTaking (d .fate)
+      → t ≡ false
+      → (rs′ : RecordBuffers) (queue′ : List ℕ)
+      → PassedBy (d .fate) v rs sizes hints queue rs′ queue′
+      → Out rs′ ends rests queue′ last
+  carried-passed t is-t off rs′ queue′ pb = go (d .fate) refl (subst (λ (b : Bool). T (not b)) (sym off ∙ is-t) tt) (pb .parts)
+    where
+      go : (x : Fate) → d .fate ≡ x → T (not (isTaking x)) → PassedParts x v rs sizes hints queue rs′ queue′ → Out rs′ ends rests queue′ last
+      go Leaves f y p = carried-leaves f queue′ (p .0) rs′ (p .1)
+      go Takes f y p = absurd y
+      go Evicts f y p = absurd y
+      go Splits f y p = rw (p .1) (carried-splits f (ltb (getD hints v 0) (getD hints (v + 1) 0)) (getD sizes v 0) refl refl queue′ (p .0))
+      go Fails f y p = rw (p .1) (carried-fails f queue′ (p .0))

@@ -1,24 +1,29 @@
 -- What carrying a decision out does to what is lent, on a state that calls reach: afterwards the state that the rules give stands there. On any other
 -- state these say nothing. Assumes nothing.
-use Prim.Native.Nat.{ℕ, _<_}
+use Prim.Native.Nat.{ℕ, _+_, _<_}
 use mathlib.Core.Path.{_≡_}
 use mathlib.Core.List.{List, []}
 use mathlib.Core.Option.{Option, some, none}
-use mathlib.Core.Bool.{Bool}
-use lib.Dec.{T}
+use mathlib.Core.Bool.{Bool, true, false}
+use lib.Dec.{T, ltb}
 use lib.ListN.{length, getD}
 use Rattle.lent.specs.Parts.{Begins}
 use Rattle.job.specs.Model.{Job}
 use Rattle.job.specs.Layout.{jobBuffers}
 use Rattle.allocator.specs.declared.CandidateReg.{CandidateReg}
 use Rattle.allocator.specs.declared.Stage.{Stage}
+use Rattle.allocator.specs.declared.Stage.the-variants.{Split}
+use Rattle.allocator.specs.declared.Assignment.the-variants.{Dead}
 use Rattle.allocator.specs.State.{State, heldBy, isUnassigned, checkOf, records, give, lose}
 use Rattle.allocator.specs.Dequeue.{decide, stateOf, evictAll, dequeue}
 use Rattle.allocator.specs.Layout.{StateBuffers}
 use Rattle.allocator.specs.Calls.{named}
 use Rattle.allocator.specs.Reached.{Reached}
 use Rattle.context.specs.Standing.{Moves, Stands}
-use Rattle.context.specs.Slices.{RecordBuffers, recordBuffers}
+use Rattle.queue.specs.QueueWalk.{keyOf, setWord}
+use Rattle.context.specs.Slices.{RecordBuffers, recordBuffers, setRecord}
+use Rattle.decisions.specs.declared.Fate.{Fate}
+use Rattle.decisions.specs.declared.Fate.the-variants.{Leaves, Takes, Evicts, Splits, Fails}
 use Rattle.decisions.specs.declared.Decided.{Decided}
 use Rattle.decisions.specs.Deciding.{members, decisionOf}
 
@@ -90,6 +95,35 @@ pub record Settled (d : Decided) (v : ℕ) (R : RecordBuffers) (maps uses sets s
       → T (named j v (d .to .reg))
       → checkOf j s v (d .to .reg) ≡ []
       → Stands j (give j v (d .to) (d .flag) s) t ends′ rests′ queue′ last′ × (R′ ≡ recordBuffers (records (give j v (d .to) (d .flag) s)))
+
+-- a register is taken from its holders
+abbrev pub isEvicting : Fate → Bool
+isEvicting Leaves = false
+isEvicting Takes = false
+isEvicting Evicts = true
+isEvicting Splits = false
+isEvicting Fails = false
+
+-- a register is taken
+abbrev pub isTaking : Fate → Bool
+isTaking Leaves = false
+isTaking Takes = true
+isTaking Evicts = true
+isTaking Splits = false
+isTaking Fails = false
+
+-- v is left over, back in the queue at stage Split, or off the queue
+abbrev pub PassedParts : Fate → ℕ → RecordBuffers → List ℕ → List ℕ → List ℕ → RecordBuffers → List ℕ → Type 0
+PassedParts Leaves v R sizes hints queue R′ queue′ = (queue′ ≡ setWord v 0 queue) × (R′ ≡ setRecord R v Dead)
+PassedParts Takes v R sizes hints queue R′ queue′ = Unit {0}
+PassedParts Evicts v R sizes hints queue R′ queue′ = Unit {0}
+PassedParts Splits v R sizes hints queue R′ queue′ =
+    (queue′ ≡ setWord v (keyOf v (ltb (getD hints v 0) (getD hints (v + 1) 0)) (getD sizes v 0) Split + 1) queue) × (R′ ≡ R)
+PassedParts Fails v R sizes hints queue R′ queue′ = (queue′ ≡ setWord v 0 queue) × (R′ ≡ R)
+
+-- what becomes of v, which takes no register
+pub record PassedBy (f : Fate) (v : ℕ) (R : RecordBuffers) (sizes hints queue : List ℕ) (R′ : RecordBuffers) (queue′ : List ℕ) : Type 0 where
+  pub parts : PassedParts f v R sizes hints queue R′ queue′
 
 -- what the dequeue of v decides is carried out
 pub record CarriedOut (d : Decided) (v : ℕ) (R : RecordBuffers) (maps uses sets sizes hints starts froms tos ends rests queue last : List ℕ) (R′ : RecordBuffers) (ends′ rests′ queue′ last′ : List ℕ) : Type 0 where

@@ -5,7 +5,7 @@ ghost use lib.ListN.{getD};
 ghost use Prim.Native.Nat.{_+_, _<_};
 ghost use Rattle.decisions.specs.Deciding.{isHeld, regIn, givenRecord};
 ghost use Rattle.context.specs.Slices.{lentRecords};
-ghost use Rattle.context.specs.Carrying.{TakenBack, EvictedAll, Taken, Settled, CarriedOut};
+ghost use Rattle.context.specs.Carrying.{TakenBack, EvictedAll, Taken, Settled, isEvicting, isTaking, PassedBy, CarriedOut};
 use crate::slices::put_record;
 use crate::slices::record_at;
 use allocator::Assignment;
@@ -229,6 +229,68 @@ fn settle(
     );
 }
 
+// Whether a number takes a register after evicting its holders.
+fn is_evicting(fate: Fate) -> bool
+    ensures { λ r. ⌜ r ≡ isEvicting fate ⌝ }
+{
+    match fate {
+        Fate::Leaves => false,
+        Fate::Takes => false,
+        Fate::Evicts => true,
+        Fate::Splits => false,
+        Fate::Fails => false,
+    }
+}
+
+// Whether a number takes a register.
+fn is_taking(fate: Fate) -> bool
+    ensures { λ r. ⌜ r ≡ isTaking fate ⌝ }
+{
+    match fate {
+        Fate::Leaves => false,
+        Fate::Takes => true,
+        Fate::Evicts => true,
+        Fate::Splits => false,
+        Fate::Fails => false,
+    }
+}
+
+// A number that takes no register is left over, is queued at stage Split, or leaves the queue.
+fn pass_by(
+    fate: Fate,
+    v: u16,
+    sizes: &[u32],
+    hint_starts: &[u16],
+    queue: &mut [u64],
+    kinds: &mut [u8],
+    regs: &mut [u8],
+    held: &mut [f32],
+)
+    ensures { λ r. ⌜ PassedBy fate v (lentRecords (now (kinds .entry)) (now (regs .entry)) (now (held .entry))) (now (sizes .entry)) (now («hint_starts» .entry)) (now (queue .entry)) (lentRecords (now (kinds .exit)) (now (regs .exit)) (now (held .exit))) (now (queue .exit)) ⌝ }
+{
+    let i = v as usize;
+    match fate {
+        Fate::Leaves => {
+            remove(queue, v); // left over
+            put_record(kinds, regs, held, i, Assignment::Dead);
+        }
+        Fate::Splits => {
+            enqueue(
+                queue,
+                v,
+                has_hints(hint_starts, v),
+                at32(sizes, i),
+                Stage::Split,
+            );
+        }
+        Fate::Fails => {
+            remove(queue, v); // too many
+        }
+        Fate::Takes => {}
+        Fate::Evicts => {}
+    }
+}
+
 // What the dequeue of v decided is carried out.
 pub fn carry_out(
     d: Decided,
@@ -251,45 +313,9 @@ pub fn carry_out(
 )
     ensures { λ r. ⌜ CarriedOut d v (lentRecords (now (kinds .entry)) (now (regs .entry)) (now (held .entry))) (now (maps .entry)) (now (uses .entry)) (now (sets .entry)) (now (sizes .entry)) (now («hint_starts» .entry)) (now («segment_starts» .entry)) (now (froms .entry)) (now (tos .entry)) (now (ends .entry)) (now (rests .entry)) (now (queue .entry)) (now (last .entry)) (lentRecords (now (kinds .exit)) (now (regs .exit)) (now (held .exit))) (now (ends .exit)) (now (rests .exit)) (now (queue .exit)) (now (last .exit)) ⌝ }
 {
-    let i = v as usize;
     let fate = d.fate;
-    match fate {
-        Fate::Leaves => {
-            remove(queue, v); // left over
-            put_record(kinds, regs, held, i, Assignment::Dead);
-        }
-        Fate::Splits => {
-            enqueue(
-                queue,
-                v,
-                has_hints(hint_starts, v),
-                at32(sizes, i),
-                Stage::Split,
-            );
-        }
-        Fate::Fails => {
-            remove(queue, v); // too many
-        }
-        Fate::Takes => {
-            settle(
-                d,
-                v,
-                maps,
-                uses,
-                sets,
-                segment_starts,
-                froms,
-                tos,
-                ends,
-                rests,
-                queue,
-                last,
-                kinds,
-                regs,
-                held,
-            );
-        }
-        Fate::Evicts => {
+    if is_taking(fate) {
+        if is_evicting(fate) {
             let gone = d.evicted;
             evict_all(
                 gone,
@@ -306,23 +332,25 @@ pub fn carry_out(
                 regs,
                 held,
             );
-            settle(
-                d,
-                v,
-                maps,
-                uses,
-                sets,
-                segment_starts,
-                froms,
-                tos,
-                ends,
-                rests,
-                queue,
-                last,
-                kinds,
-                regs,
-                held,
-            );
         }
+        settle(
+            d,
+            v,
+            maps,
+            uses,
+            sets,
+            segment_starts,
+            froms,
+            tos,
+            ends,
+            rests,
+            queue,
+            last,
+            kinds,
+            regs,
+            held,
+        );
+    } else {
+        pass_by(fate, v, sizes, hint_starts, queue, kinds, regs, held);
     }
 }
