@@ -1,11 +1,11 @@
 // Writes the sheet of a job's bytes to a descriptor, line by line. What is written is what the crate sheets says; here is only what moves it.
 use io::write_all;
+use job_sheet::begin;
 use lent::part8;
 use listing::Listing;
 use listing::Step;
 use listing::sheet::refused;
 use sheets::Printing;
-use sheets::sheet::begin;
 use sheets::sheet::next;
 
 // Writes the first n bytes of a line, and answers whether they were written.

@@ -7,6 +7,7 @@ ghost use Rattle.run_loop.specs.Running.{lentState};
 ghost use Rattle.lines.specs.Texts.{Appended};
 ghost use Rattle.lines.specs.LineTexts.{lent};
 ghost use Rattle.printout.specs.Whole.{isLine, sizeOf, afterOf, LinesPrinted, Printed};
+use job_sheet::begin;
 use lent::at8;
 use lent::part8;
 use lent::put8;
@@ -14,7 +15,6 @@ use listing::Listing;
 use listing::Step;
 use listing::sheet::refused;
 use sheets::Printing;
-use sheets::sheet::begin;
 use sheets::sheet::next;
 
 fn is_line(step: Step) -> bool

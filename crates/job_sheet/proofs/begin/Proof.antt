@@ -1,8 +1,8 @@
 use borrow.Author.Needs.{needs}
 use mathlib.Core.Path.{_∙_}
 use Rattle.sheets.proofs.BeginLaws.{short-begin, refused-begin, loaded-begin}
-use Rattle.sheets.proofs.sheet.begin.Statement.{statement}
-use Rattle.sheets.proofs.sheet.begin.Tie as tie
+use Rattle.job_sheet.proofs.begin.Statement.{statement}
+use Rattle.job_sheet.proofs.begin.Tie as tie
 
 returns : tie.Need-returns
 returns c = short-begin _ _ _ _ (c .if1 .taken)
