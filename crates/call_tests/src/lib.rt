@@ -10,7 +10,6 @@ ghost use Rattle.allocator.specs.Layout.{stageLimits};
 ghost use Rattle.job.specs.Layout.{slices};
 ghost use Rattle.call_tests.specs.Testing.{isFree, hintedAt, namedIn, namedTo, unknownIn, clearTo, placeTests, evictTests};
 use allocator::Assignment;
-use context::carry::is_assigned;
 use decisions::parts::of8;
 use decisions::parts::of16;
 use decisions::parts::of32;
@@ -30,6 +29,7 @@ use lent::from8;
 use lent::from16;
 use lent::from32;
 use order::has_reg;
+use records::assignment::is_assigned;
 use stage::allocate::is_clear;
 
 // Whether a buffer is below its limit, or another one is.

@@ -29,7 +29,7 @@ use Rattle.allocator.proofs.Accepted.{all-pass, Placeable, placing-accepted, ev
 use Rattle.allocator.proofs.Good.{Good, good-reached, placeable-idle}
 use Rattle.allocator.proofs.Records.{holder-stays, held-record, idle-record, give-records, lose-records, lose-last}
 use Rattle.stage.proofs.ReachedMoves.{evict-held}
-use Rattle.decisions.specs.Deciding.{flagIn, regIn}
+use Rattle.records.specs.Fields.{flagIn, regIn}
 use Rattle.context.specs.Standing.{JobStands}
 use Rattle.context.specs.Carrying.{Taken, TakenBack}
 use Rattle.call_tests.specs.Testing.{clearTo, placeTests, evictTests}

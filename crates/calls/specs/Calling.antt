@@ -18,7 +18,7 @@ use Rattle.allocator.specs.Layout.{StateBuffers, stageLimits}
 use Rattle.allocator.specs.Calls.{Call, placing, evicting, running, Answer, refused, placed, evicted, ended, answerOf, after}
 use Rattle.allocator.specs.Reached.{Reached}
 use Rattle.allocator.specs.Run.{run}
-use Rattle.decisions.specs.Deciding.{flagIn, regIn}
+use Rattle.records.specs.Fields.{flagIn, regIn}
 use Rattle.context.specs.Standing.{JobStands, Stands}
 use Rattle.run_loop.specs.Running.{endingNumber}
 use Rattle.call_tests.specs.Testing.{namedTo, unknownIn, clearTo, placeTests, evictTests}

@@ -11,10 +11,8 @@ use allocator::Assignment;
 use call_tests::evict_refusal;
 use call_tests::place_refusal;
 use call_tests::short_buffers;
-use context::carry::reg_of;
 use context::carry::take;
 use context::carry::take_back;
-use decisions::flag_of;
 use job::HINT_STARTS;
 use job::JobHeader;
 use job::SEGMENT_STARTS;
@@ -25,6 +23,8 @@ use job::USES;
 use lent::from;
 use lent::from16;
 use lent::from32;
+use records::assignment::flag_of;
+use records::assignment::reg_of;
 
 // The record of v. A number above 511 has none.
 fn record_at(records: [Assignment; 512], v: u16) -> Assignment

@@ -27,13 +27,14 @@ use Rattle.allocator.proofs.Records.{give-records, leave-records, requeue-recor
 use Rattle.stage.proofs.ReachedSearch.{record-read}
 use Rattle.queue.specs.QueueWalk.{keyOf, setWord}
 use Rattle.context.specs.Standing.{Stands}
-use Rattle.context.specs.Slices.{RecordBuffers, lentRecords, recordBuffers, recordAt, setRecord}
-use Rattle.context.proofs.SliceLaws.{free, at-back, set-back}
+use Rattle.records.specs.Slices.{RecordBuffers, lentRecords, recordBuffers, recordAt, setRecord}
+use Rattle.records.proofs.SliceLaws.{free, at-back, set-back}
 use Rattle.decisions.specs.declared.Fate.{Fate}
 use Rattle.decisions.specs.declared.Fate.the-variants.{Leaves, Takes, Evicts, Splits, Fails}
 use Rattle.decisions.specs.declared.Decided.{Decided}
-use Rattle.decisions.specs.Deciding.{members, decisionBy, decisionOf, flagIn, givenRecord}
-use Rattle.context.specs.Carrying.{EvictReads, TakeReads, EvictedAll, Taken, Settled, isEvicting, isTaking, PassedParts, PassedBy, CarriedOut}
+use Rattle.decisions.specs.Deciding.{members, decisionBy, decisionOf}
+use Rattle.records.specs.Fields.{flagIn}
+use Rattle.context.specs.Carrying.{EvictReads, TakeReads, EvictedAll, Taken, givenRecord, Settled, isEvicting, isTaking, PassedParts, PassedBy, CarriedOut}
 use Rattle.context.proofs.CarryLaws.{unqueued, queued-at}
 
 -- a decision by the fate

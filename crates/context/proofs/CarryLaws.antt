@@ -44,11 +44,11 @@ use Rattle.queue.specs.QueueWalk.{keyOf, setWord}
 use Rattle.stage.proofs.QueueLaws.{tournament-length, set-tournament, key-is, size-at, has-hints}
 use Rattle.stage.proofs.ReachedMoves.{table-stands, uses-lie, assign-gives, evict-loses, evict-held, evict-nothing, evictMarked, marked-yes, marked-no, marked-end}
 use Rattle.context.specs.Standing.{TableStands, Moves, Stands}
-use Rattle.context.specs.Slices.{RecordBuffers, recordBuffers, recordAt, setRecord}
-use Rattle.context.proofs.SliceLaws.{free, at-back, set-back}
+use Rattle.records.specs.Slices.{RecordBuffers, recordBuffers, recordAt, setRecord}
+use Rattle.records.proofs.SliceLaws.{free, at-back, set-back}
 use Rattle.stage.proofs.ReachedSearch.{record-read}
-use Rattle.decisions.specs.Deciding.{shareOf, members, flagIn, isHeld, regIn}
-use Rattle.stage.specs.EvictWalk.{recordWeight}
+use Rattle.decisions.specs.Deciding.{shareOf, members}
+use Rattle.records.specs.Fields.{flagIn, isHeld, regIn, recordWeight}
 use Rattle.context.specs.Carrying.{EvictReads, TakeReads, TakenBack, EvictedAll, Taken}
 use Rattle.allocator.specs.Dequeue.{evictAll}
 use Rattle.context.proofs.Shares.{froms-share, tos-share}

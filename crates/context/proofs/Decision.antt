@@ -30,7 +30,6 @@ use Rattle.allocator.proofs.Good.{Good, Idle, good-reached, queued-idle}
 use Rattle.order.specs.OrderWalk.{lastOf}
 use Rattle.order.specs.declared.Last.the-variants.{Reg as LastReg, NoReg}
 use Rattle.stage.specs.AllocateWalk.{availableIn, preferIn}
-use Rattle.stage.specs.EvictWalk.{recordWeight}
 use Rattle.stage.specs.declared.allocate.Best.{Best}
 use Rattle.stage.specs.declared.allocate.Available.{Available}
 use Rattle.stage.specs.declared.allocate.Available.the-variants.{Clear, NoneClear, NoCandidates}
@@ -38,10 +37,11 @@ use Rattle.order.proofs.OrderLaws.{all-hints, hinted-is, offers-all}
 use Rattle.stage.proofs.Reached.{LaidOut}
 use Rattle.stage.proofs.ReachedSearch.{ownHinted, hinted-small, order-small, SearchLent, spill-read, record-read, byAvailable, decide-found, BestIs, eviction-found, PreferredIs, preferred-found}
 use Rattle.decisions.specs.declared.Fate.the-variants.{Takes, Splits, Fails}
-use Rattle.decisions.specs.Deciding.{members, decisionOf, decided, without, flagIn, lastIn, preferredOr, clearIn, evictedOr, noneClearIn, foundIn, inOrder, lentTo, classIn, hintedIn, decidedIn}
+use Rattle.decisions.specs.Deciding.{members, decisionOf, decided, without, lastIn, preferredOr, clearIn, evictedOr, noneClearIn, foundIn, inOrder, lentTo, classIn, hintedIn, decidedIn}
+use Rattle.records.specs.Fields.{flagIn, recordWeight}
 use Rattle.context.specs.Standing.{JobReads, TableStands}
-use Rattle.context.specs.Slices.{RecordBuffers, recordBuffers, recordAt}
-use Rattle.context.proofs.SliceLaws.{free, at-back}
+use Rattle.records.specs.Slices.{RecordBuffers, recordBuffers, recordAt}
+use Rattle.records.proofs.SliceLaws.{free, at-back}
 use Rattle.decisions.proofs.DecideLaws.{decided-by}
 use Rattle.context.proofs.Shares.{froms-share, tos-share, values-share, hint-regs-share, hint-weights-share, class-share}
 

@@ -4,7 +4,7 @@ use Prim.Native.Nat.{ℕ, _+_, _<_}
 use mathlib.Core.Path.{_≡_}
 use mathlib.Core.List.{List, []}
 use mathlib.Core.Option.{Option, some, none}
-use mathlib.Core.Bool.{Bool, true, false}
+use mathlib.Core.Bool.{Bool, true, false, _||_}
 use lib.Dec.{T, ltb}
 use lib.ListN.{length, getD}
 use Rattle.lent.specs.Parts.{Begins}
@@ -13,7 +13,8 @@ use Rattle.job.specs.Layout.{jobBuffers}
 use Rattle.allocator.specs.declared.CandidateReg.{CandidateReg}
 use Rattle.allocator.specs.declared.Stage.{Stage}
 use Rattle.allocator.specs.declared.Stage.the-variants.{Split}
-use Rattle.allocator.specs.declared.Assignment.the-variants.{Dead}
+use Rattle.allocator.specs.declared.Assignment.{Assignment}
+use Rattle.allocator.specs.declared.Assignment.the-variants.{Assigned, Dead}
 use Rattle.allocator.specs.State.{State, heldBy, isUnassigned, checkOf, records, give, lose}
 use Rattle.allocator.specs.Dequeue.{decide, stateOf, evictAll, dequeue}
 use Rattle.allocator.specs.Layout.{StateBuffers}
@@ -21,7 +22,8 @@ use Rattle.allocator.specs.Calls.{named}
 use Rattle.allocator.specs.Reached.{Reached}
 use Rattle.context.specs.Standing.{Moves, Stands}
 use Rattle.queue.specs.QueueWalk.{keyOf, setWord}
-use Rattle.context.specs.Slices.{RecordBuffers, recordBuffers, setRecord}
+use Rattle.records.specs.Fields.{flagIn}
+use Rattle.records.specs.Slices.{RecordBuffers, recordBuffers, setRecord}
 use Rattle.decisions.specs.declared.Fate.{Fate}
 use Rattle.decisions.specs.declared.Fate.the-variants.{Leaves, Takes, Evicts, Splits, Fails}
 use Rattle.decisions.specs.declared.Decided.{Decided}
@@ -81,6 +83,10 @@ pub record Taken (v reg : ℕ) (maps uses sets starts froms tos ends rests queue
       → (c : CandidateReg) (f : Bool)
       → c .reg ≡ reg
       → Stands j (give j v c f s) t ends′ rests′ queue′ last′
+
+-- the record of a number that takes a register: its flag stays on, or turns on
+abbrev pub givenRecord : Bool → Assignment → CandidateReg → Assignment
+givenRecord f a c = Assigned (f || flagIn a) (c .reg) (c .«preference_weight»)
 
 -- v, which holds nothing, takes the register that was decided, and its record says so
 pub record Settled (d : Decided) (v : ℕ) (R : RecordBuffers) (maps uses sets starts froms tos ends rests queue last : List ℕ) (R′ : RecordBuffers) (ends′ rests′ queue′ last′ : List ℕ) : Type 0 where

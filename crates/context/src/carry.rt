@@ -3,17 +3,13 @@ ghost use mathlib.Core.Path.{_≡_};
 ghost use lib.Dec.{ltb};
 ghost use lib.ListN.{getD};
 ghost use Prim.Native.Nat.{_+_, _<_};
-ghost use Rattle.decisions.specs.Deciding.{isHeld, regIn, givenRecord};
-ghost use Rattle.context.specs.Slices.{lentRecords};
-ghost use Rattle.context.specs.Carrying.{TakenBack, EvictedAll, Taken, Settled, isEvicting, isTaking, PassedBy, CarriedOut};
-use crate::slices::put_record;
-use crate::slices::record_at;
+ghost use Rattle.records.specs.Slices.{lentRecords};
+ghost use Rattle.context.specs.Carrying.{TakenBack, EvictedAll, Taken, givenRecord, Settled, isEvicting, isTaking, PassedBy, CarriedOut};
 use allocator::Assignment;
 use allocator::CandidateReg;
 use allocator::Stage;
 use decisions::Decided;
 use decisions::Fate;
-use decisions::flag_of;
 use decisions::parts::of32;
 use lent::at;
 use lent::at16;
@@ -23,6 +19,11 @@ use placing::assign::assign;
 use placing::assign::evict;
 use queue::enqueue;
 use queue::remove;
+use records::assignment::flag_of;
+use records::assignment::is_assigned;
+use records::assignment::reg_of;
+use records::slices::put_record;
+use records::slices::record_at;
 
 // Whether a number has hints: they begin before the next one's do.
 fn has_hints(starts: &[u16], v: u16) -> bool
@@ -57,40 +58,6 @@ pub fn take_back(
         at32(sizes, v as usize),
         Stage::Evict,
     );
-}
-
-// Whether a record holds a register.
-pub fn is_assigned(a: Assignment) -> bool
-    ensures { λ r. ⌜ r ≡ isHeld a ⌝ }
-{
-    match a {
-        Assignment::Assigned {
-            evicted_for_preference: _,
-            reg: _,
-            preference_weight: _,
-        } => true,
-        Assignment::Unassigned {
-            evicted_for_preference: _,
-        } => false,
-        Assignment::Dead => false,
-    }
-}
-
-// The register that a record holds, or 0.
-pub fn reg_of(a: Assignment) -> u8
-    ensures { λ r. ⌜ r ≡ regIn a ⌝ }
-{
-    match a {
-        Assignment::Assigned {
-            evicted_for_preference: _,
-            reg,
-            preference_weight: _,
-        } => reg,
-        Assignment::Unassigned {
-            evicted_for_preference: _,
-        } => 0,
-        Assignment::Dead => 0,
-    }
 }
 
 // All of a set lose their registers, in ascending order.

@@ -11,8 +11,6 @@ use Rattle.matrix.specs.Walk.{Lent, lent}
 use Rattle.job.specs.Model.{zeroWeight}
 use Rattle.job.specs.Layout.{JobBuffers}
 use Rattle.allocator.specs.declared.CandidateReg.{CandidateReg}
-use Rattle.allocator.specs.declared.Assignment.{Assignment}
-use Rattle.allocator.specs.declared.Assignment.the-variants.{Assigned, Unassigned, Dead}
 use Rattle.allocator.specs.declared.Stage.{Stage}
 use Rattle.allocator.specs.declared.Stage.the-variants.{Evict, Split}
 use Rattle.allocator.specs.Order.{candidate, highestPreference}
@@ -58,26 +56,6 @@ decided x c f vs = record { fate = x; to = c; flag = f; evicted = vs }
 -- no register is taken
 abbrev pub without : Fate → Decided
 without x = decided x (candidate 0 zeroWeight) false (replicate 512 false)
-
-abbrev pub flagIn : Assignment → Bool
-flagIn (Assigned f r w) = f
-flagIn (Unassigned f) = f
-flagIn Dead = false
-
--- whether a record holds a register, and which
-abbrev pub isHeld : Assignment → Bool
-isHeld (Assigned f r w) = true
-isHeld (Unassigned f) = false
-isHeld Dead = false
-
-abbrev pub regIn : Assignment → ℕ
-regIn (Assigned f r w) = r
-regIn (Unassigned f) = 0
-regIn Dead = 0
-
--- the record of a number that takes a register: its flag stays on, or turns on
-abbrev pub givenRecord : Bool → Assignment → CandidateReg → Assignment
-givenRecord f a c = Assigned (f || flagIn a) (c .reg) (c .«preference_weight»)
 
 -- the register last given to the set of v, by its word
 unfoldable pub lastIn : List ℕ → List ℕ → ℕ → Last

@@ -8,12 +8,11 @@ ghost use Rattle.matrix.specs.Walk.{lent};
 ghost use Rattle.allocator.specs.declared.CandidateReg.{CandidateReg};
 ghost use Rattle.allocator.specs.Evict.{infinite};
 ghost use Rattle.order.specs.OrderWalk.{Computed, offersFrom};
-ghost use Rattle.decisions.specs.Deciding.{without, flagIn, lastIn, clearIn, noneClearIn, foundIn, inOrder, classIn, decidedIn, reading};
+ghost use Rattle.decisions.specs.Deciding.{without, lastIn, clearIn, noneClearIn, foundIn, inOrder, classIn, decidedIn, reading};
 use crate::parts::of_float;
 use crate::parts::of8;
 use crate::parts::of16;
 use crate::parts::of32;
-use allocator::Assignment;
 use allocator::CandidateReg;
 use allocator::Stage;
 use lent::at_float;
@@ -60,23 +59,6 @@ fn without_reg(fate: Fate) -> Decided
         },
         flag: false,
         evicted: [false; 512],
-    }
-}
-
-// Whether a record has its evicted-for-preference flag on.
-pub fn flag_of(a: Assignment) -> bool
-    ensures { λ r. ⌜ r ≡ flagIn a ⌝ }
-{
-    match a {
-        Assignment::Assigned {
-            evicted_for_preference,
-            reg: _,
-            preference_weight: _,
-        } => evicted_for_preference,
-        Assignment::Unassigned {
-            evicted_for_preference,
-        } => evicted_for_preference,
-        Assignment::Dead => false,
     }
 }
 

@@ -30,41 +30,13 @@ use Rattle.context.specs.Standing.{JobStands}
 use Rattle.run_loop.specs.Running.{endingNumber}
 use Rattle.calls.specs.Calling as calling
 use Rattle.calls.specs.Calling.{sizesOf, refusalNumber, StateStands}
-use Rattle.records.specs.Words.{recordWord, recordsIn, PlainRecord, AllPlain}
+use Rattle.records.specs.Words.{recordWord, recordsIn, AllPlain}
+use Rattle.records.proofs.PlainRecords.{plain-records}
 use Rattle.words.specs.Words.{headerIn}
 use Rattle.pezhkadu.specs.Calling.{Called, RunCalled, runShort}
 
 pub not-both : false ≡ true → ⊥
 not-both q = subst (λ (b : Bool). T (elim b as (λ x. Bool) [ true ↦ false | false ↦ true ])) q tt
-
--- ---- on a state that calls reach every record is read again as it was
-
-plain-one :
-    (l f : Bool) (h : Option CandidateReg) → ((c : CandidateReg) → h ≡ some c → PlainRecord (Assigned f (c .reg) (c .«preference_weight»)))
-    → PlainRecord (assignment l f h)
-plain-one true f h p = tt
-plain-one false f none p = tt
-plain-one false f (some c) p = p c refl
-
-plain-at : (j : Job) (s : State) → Reached j s → (v : ℕ) → PlainRecord (recordOf s v)
-unfolding recordOf
-plain-at j s r v = plain-one (isLeftOver s v) (flag s v) (heldBy s v) (λ c e. good-reached j s r .agrees .holder v c e .1 .plain)
-
-past-end : {A : Type 0} (xs : List A) (i : ℕ) (d : A) → length xs ≤ i → getD xs i d ≡ d
-past-end [] i d h = refl
-past-end (x ∷ xs) zero d h = absurd (omega arith)
-past-end (x ∷ xs) (suc i) d h = past-end xs i d (omega arith)
-
-pub plain-records : (j : Job) (s : State) → Reached j s → AllPlain (records s)
-unfolding records
-plain-records j s r v = go (ltb v 512) refl
-  where
-    size : length (map (recordOf s) (count 0 512)) ≡ 512
-    size = length-map (count 0 512) (recordOf s) ∙ count-length 0 512
-
-    go : (b : Bool) → ltb v 512 ≡ b → PlainRecord (getD (map (recordOf s) (count 0 512)) v Dead)
-    go true e = subst PlainRecord (sym (from-zero (recordOf s) Dead 512 v (ltb-true v 512 e))) (plain-at j s r v)
-    go false e = subst PlainRecord (sym (past-end (map (recordOf s) (count 0 512)) v Dead (omega (arith, size, ltb-false v 512 e)))) tt
 
 -- ---- one call
 

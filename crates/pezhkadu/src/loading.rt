@@ -6,7 +6,7 @@ ghost use Rattle.pezhkadu.specs.Loading.{LoadCalled};
 use calls::loads::first_records;
 use calls::loads::load;
 use loader::load::JobLoaded;
-use records::store;
+use records::words::store;
 use words::header::store_header;
 use words::numbers::wide;
 

@@ -7,7 +7,7 @@ use lent::at;
 use lent::put;
 use listing::Listing;
 use listing::Step;
-use records::record_of;
+use records::words::record_of;
 use words::header::header_of;
 use words::numbers::ending_of;
 use words::numbers::place_number;

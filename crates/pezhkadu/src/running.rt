@@ -5,8 +5,8 @@ ghost use Rattle.job.specs.Layout.{slices};
 ghost use Rattle.run_loop.specs.Running.{lentState};
 ghost use Rattle.pezhkadu.specs.Calling.{RunCalled};
 use lent::put;
-use records::read;
-use records::store;
+use records::words::read;
+use records::words::store;
 
 // Runs with a budget of so many dequeues. The answer takes the number of the run's word, 1 for done, 2 for spent and 3 for toomany, and how many
 // dequeues it made. Refused with 15 where a slice is short, and then nothing is changed.

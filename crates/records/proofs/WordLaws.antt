@@ -19,7 +19,9 @@ use Rattle.reg_matrix.proofs.Places.{count-length, from-zero}
 use Rattle.job.specs.Model.{Plain}
 use Rattle.allocator.specs.declared.Assignment.{Assignment}
 use Rattle.allocator.specs.declared.Assignment.the-variants.{Assigned, Unassigned, Dead}
-use Rattle.records.specs.Words.{flagNumber, weightBits, weightIn, recordWord, Parts, byKind, recordIn, recordsIn, PlainRecord, AllPlain}
+use Rattle.records.specs.Fields.{regIn, recordWeight, kindOf}
+use Rattle.records.specs.Words.{weightBits, weightIn, recordWord, recordIn, recordsIn, PlainRecord, AllPlain}
+use Rattle.records.proofs.FieldLaws.{record-back}
 
 -- ---- bits
 
@@ -75,34 +77,28 @@ differs-plain w e p = subst Plain (differs-from-itself w (subst T (sym e) tt)) p
 -- ---- words
 
 -- the parts of a word
-pub word-parts : (b r f x : ℕ) → b < 4294967296 → r < 256 → x ≡ b * 65536 + r * 256 + (4 + f) → f ≤ 1 → Parts x f r b
-word-parts b r f x hb hr e hf = record { kind = omega arith; reg-is = omega arith; bits-are = omega arith }
+word-parts : (b r k x : ℕ) → b < 4294967296 → r < 256 → k ≤ 5 → x ≡ b * 65536 + r * 256 + k → (x % 256 ≡ k) × (x / 256 % 256 ≡ r) × (x / 65536 % 4294967296 ≡ b)
+word-parts b r k x hb hr hk e = (omega arith, omega arith, omega arith)
 
-flag-small : (f : Bool) → flagNumber f ≤ 1
-flag-small true = omega arith
-flag-small false = omega arith
+kind-small : (a : Assignment) → kindOf a ≤ 5
+kind-small (Assigned true r w) = omega arith
+kind-small (Assigned false r w) = omega arith
+kind-small (Unassigned true) = omega arith
+kind-small (Unassigned false) = omega arith
+kind-small Dead = omega arith
 
-by-parts : (f : Bool) (r : ℕ) (w : Float) (k r′ b : ℕ) → k ≡ 4 + flagNumber f → r′ ≡ r → weightIn b ≡ w → byKind k r′ b ≡ Assigned f r w
-by-parts true r w k r′ b ek er eb = rw (ek, er, eb) refl
-by-parts false r w k r′ b ek er eb = rw (ek, er, eb) refl
-
--- what is read from a record's word is the record
-pub assigned-back :
-    (a : Assignment) (f : Bool) (r : ℕ) (w : Float) → a ≡ Assigned f r w → (n b x : ℕ) → n ≡ flagNumber f → (Plain w → weightIn b ≡ w) → (n ≤ 1 → Parts x n r b)
-    → PlainRecord a → recordIn x ≡ a
+-- the word of a record's parts is its word, and what is read from it is the record
+pub word-told :
+    (a : Assignment) (w : Float) (b r k : ℕ) → w ≡ recordWeight a → (b ≡ weightBits w) × (Plain w → weightIn b ≡ w) → b < 4294967296 → r ≡ regIn a → r < 256 → k ≡ kindOf a
+    → (b * 65536 + r * 256 + k ≡ recordWord a) × (PlainRecord a → recordIn (b * 65536 + r * 256 + k) ≡ a)
 unfolding recordIn
-assigned-back a f r w ea n b x en back parts p =
-    let q = parts (rw en (flag-small f)) in
-    by-parts f r w _ _ (x / 65536 % 4294967296) (q .kind ∙ ap (λ (k : ℕ). 4 + k) en) (q .reg-is) (ap weightIn (q .bits-are) ∙ back (subst PlainRecord ea p)) ∙ sym ea
+word-told a w b r k ew eb hb er hr ek = (rw (← ew, ← eb .0, ← er, ← ek), back)
+  where
+    parts : (x : ℕ) → x ≡ b * 65536 + r * 256 + k → (x % 256 ≡ k) × (x / 256 % 256 ≡ r) × (x / 65536 % 4294967296 ≡ b)
+    parts x e = word-parts b r k x hb hr (rw ek (kind-small a)) e
 
-pub unassigned-back : (a : Assignment) (f : Bool) → a ≡ Unassigned f → (x : ℕ) → x ≡ flagNumber f → recordIn x ≡ a
-unfolding recordIn
-unassigned-back a true ea x e = rw (e, ea) refl
-unassigned-back a false ea x e = rw (e, ea) refl
-
-pub dead-back : (a : Assignment) → a ≡ Dead → recordIn 2 ≡ a
-unfolding recordIn
-dead-back a ea = sym ea
+    back : PlainRecord a → recordIn (b * 65536 + r * 256 + k) ≡ a
+    back p = let q = parts (b * 65536 + r * 256 + k) refl in rw (q .0, q .1, q .2, eb .1 (rw ew p), ek, er, ew) (record-back a)
 
 -- ---- all records, one after another
 
@@ -157,37 +153,3 @@ module _ {rs : List Assignment} {ws₀ ws : List ℕ} {i : ℕ} (h : Storing rs 
     where
       n : length (map (λ v. recordIn (getD ws v 0)) (count 0 512)) ≡ 512
       n = length-map (count 0 512) (λ v. recordIn (getD ws v 0)) ∙ count-length 0 512
-
--- as many as there are places
-sets-whole : {A : Type 0} (vs l : List A) → length vs ≡ length l → sets l 0 vs ≡ vs
-sets-whole {A} vs l n =
-    let n′ : 0 + length vs ≡ length l = omega (arith, n) in
-    sets-eq vs l 0 (omega (arith, n)) ∙ ap (λ (k : ℕ). vs ++ drop k l) n′ ∙ ap (λ (t : List A). vs ++ t) (drop-length l) ∙ append-nil vs
-
--- the records of the words from i on
-abbrev recordsFrom : List ℕ → ℕ → List Assignment
-recordsFrom ws i = map (λ v. recordIn (getD ws v 0)) (count i (512 - i))
-
--- the records before i are read
-pub record Reading (ws : List ℕ) (all : List Assignment) (i : ℕ) : Type 0 where
-  pub rest : recordsIn ws ≡ sets all i (recordsFrom ws i)
-  pub size : length all ≡ 512
-
-pub read-start : (ws : List ℕ) (all : List Assignment) → length all ≡ 512 → Reading ws all 0
-unfolding recordsIn
-read-start ws all l =
-    let n : length (recordsFrom ws 0) ≡ length all = length-map (count 0 512) (λ v. recordIn (getD ws v 0)) ∙ count-length 0 512 ∙ sym l in
-    record { rest = sym (sets-whole (recordsFrom ws 0) all n); size = l }
-
-module _ {ws : List ℕ} {all : List Assignment} {i : ℕ} (h : Reading ws all i) where
-  -- one more record read
-  pub read-more :
-      (all′ : List Assignment) (x : ℕ) (a : Assignment) → i < 512 → x ≡ getD ws i 0 → a ≡ recordIn x → all′ ≡ set all i a → Reading ws all′ (i + 1)
-  unfolding count
-  read-more all′ x a l ex ea e =
-      let n : 512 - i ≡ suc (512 - (i + 1)) = omega arith in
-      record { rest = h .rest ∙ rw (n, e, ea, ex, add-one i); size = rw (e, length-set) (h .size) }
-
-  pub read-end : 512 ≤ i → all ≡ recordsIn ws
-  unfolding count
-  read-end l = let n : 512 - i ≡ 0 = omega arith in sym (h .rest ∙ rw n)

@@ -28,12 +28,13 @@ use Rattle.queue.specs.declared.Next.{Next}
 use Rattle.queue.specs.declared.Next.the-variants.{Nobody, Number}
 use Rattle.stage.proofs.QueueLaws.{tournament-length, greatest-next}
 use Rattle.context.specs.Standing.{JobReads, JobStands, Stands}
-use Rattle.context.specs.Slices.{RecordBuffers, recordBuffers, recordAt, recordsIn}
-use Rattle.context.proofs.SliceLaws.{records-length, records-back}
+use Rattle.records.specs.Slices.{RecordBuffers, recordBuffers, recordAt, recordsIn}
+use Rattle.records.proofs.SliceLaws.{records-length, records-back}
 use Rattle.decisions.specs.declared.Fate.{Fate}
 use Rattle.decisions.specs.declared.Fate.the-variants.{Leaves, Takes, Evicts, Splits, Fails}
 use Rattle.decisions.specs.declared.Decided.{Decided}
-use Rattle.decisions.specs.Deciding.{decisionBy, decisionOf, classIn, decidedIn, reading, flagIn}
+use Rattle.decisions.specs.Deciding.{decisionBy, decisionOf, classIn, decidedIn, reading}
+use Rattle.records.specs.Fields.{flagIn}
 use Rattle.context.specs.Carrying.{EvictReads, TakeReads, CarriedOut}
 use Rattle.run_loop.specs.Running.{lentJob, lentState, isFails, endingNumber, RunMade, RunDone}
 use Rattle.context.proofs.Decision.{decision-is}

@@ -15,7 +15,7 @@ use Rattle.allocator.specs.Layout.{StateBuffers}
 use Rattle.allocator.specs.Run.{run}
 use Rattle.allocator.specs.Reached.{Reached}
 use Rattle.context.specs.Standing.{JobStands, Stands}
-use Rattle.context.specs.Slices.{RecordBuffers, recordBuffers}
+use Rattle.records.specs.Slices.{RecordBuffers, recordBuffers}
 use Rattle.decisions.specs.declared.Fate.{Fate}
 use Rattle.decisions.specs.declared.Fate.the-variants.{Leaves, Takes, Evicts, Splits, Fails}
 

@@ -1,18 +1,18 @@
 // A run with a budget (`Allocator::run`): dequeues, the greatest key first, until nobody waits, the budget is spent, or too many are live.
 ghost use mathlib.Core.Path.{_≡_};
-ghost use Rattle.context.specs.Slices.{lentRecords};
+ghost use Rattle.records.specs.Slices.{lentRecords};
 ghost use Rattle.run_loop.specs.Running.{RunMade, RunDone, lentJob, lentState, isFails};
 use allocator::Assignment;
 use context::carry::carry_out;
-use context::slices::put_records;
-use context::slices::record_at;
-use context::slices::records_in;
 use decisions::Decided;
 use decisions::Fate;
 use decisions::decide;
-use decisions::flag_of;
 use queue::Next;
 use queue::greatest;
+use records::assignment::flag_of;
+use records::slices::put_records;
+use records::slices::record_at;
+use records::slices::records_in;
 
 // Whether a decision ends the run.
 fn is_over(d: Decided) -> bool

@@ -44,7 +44,8 @@ use Rattle.calls.proofs.StageLoads.{append-short, behindState, laid-state, laid
 use Rattle.listing.specs.declared.Listing.{Listing}
 use Rattle.lines.specs.LineTexts.{lent}
 use Rattle.listing.proofs.SheetLaws.{Laid, reached-sheet}
-use Rattle.records.specs.Words.{recordWord, recordsIn, PlainRecord, AllPlain}
+use Rattle.records.specs.Words.{recordWord, recordsIn, AllPlain}
+use Rattle.records.proofs.PlainRecords.{plain-records}
 use Rattle.sheets.specs.declared.Printing.{Printing}
 use Rattle.sheets.specs.declared.Printing.the-variants.{Refused, At}
 use Rattle.sheets.specs.Printing.{sheetLimits, sheetSizes, loadedWith, ranOf, stateIn, recordsOn, startOf, shown, BegunParts, Begun, endingOf, RunStored}
@@ -97,27 +98,6 @@ stands-long j s t B S b st =
     and begins-most 512 (lastWords s) _ (omega (arith, last-length s)) (t .last, st .last-is)
     and all
     )
-
--- ---- the records of a state that calls reach have plain weights
-
-module _ (j : Job) (s : State) (reach : Reached j s) where
-  held-plain : (l f : Bool) (o : Option CandidateReg) → ((c : CandidateReg) → o ≡ some c → Plain (c .«preference_weight»)) → PlainRecord (assignment l f o)
-  held-plain true f o h = tt
-  held-plain false f none h = tt
-  held-plain false f (some c) h = h c refl
-
-  record-plain : (v : ℕ) → PlainRecord (recordOf s v)
-  unfolding recordOf
-  record-plain v = held-plain (isLeftOver s v) (flag s v) (heldBy s v) (λ c q. good-reached j s reach .agrees .holder v c q .1 .plain)
-
-  all-plain : AllPlain (records s)
-  unfolding records
-  all-plain v = go (decLt v 512)
-    where
-      go : Dec (v < 512) → PlainRecord (getD (map (recordOf s) (count 0 512)) v Dead)
-      go (yes h) = subst PlainRecord (sym (from-zero (recordOf s) Dead 512 v h)) (record-plain v)
-      go (no h) =
-          subst PlainRecord (sym (List·getD-eq-default (map (recordOf s) (count 0 512)) Dead (omega (arith, h, length-map (count 0 512) (recordOf s), count-length 0 512)))) tt
 
 -- ---- the run's word
 
@@ -283,7 +263,7 @@ module _ (bytes : List ℕ) (B : JobSlices) (S : StateBuffers) (W : List ℕ) wh
             maps-behind = job-stands .reads .regs .0;
             ends-behind = behindState S .ends;
             rests-behind = behindState S .rests;
-            records-are = d .read-back (subst AllPlain (sym (called .1 .records-are)) (all-plain j (ranOf j .state) reach-after)) room ∙ called .1 .records-are;
+            records-are = d .read-back (subst AllPlain (sym (called .1 .records-are)) (plain-records j (ranOf j .state) reach-after)) room ∙ called .1 .records-are;
             maps-are = job-stands .reads .regs .1;
             ends-are = called .1 .stands .moves .table .ends-are;
             rests-are = called .1 .stands .moves .table .rests-are;

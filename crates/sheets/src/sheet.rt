@@ -11,8 +11,8 @@ use job::JobHeader;
 use lent::at;
 use listing::Listing;
 use listing::Step;
-use records::record_of;
-use records::store;
+use records::words::record_of;
+use records::words::store;
 
 // A run's word by its number.
 fn ending_of(n: u64) -> Ending

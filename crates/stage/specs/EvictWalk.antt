@@ -10,19 +10,11 @@ use Rattle.reg_matrix.specs.declared.Interference.{Interference}
 use Rattle.reg_matrix.specs.declared.InterferenceKind.{InterferenceKind}
 use Rattle.reg_matrix.specs.declared.InterferenceKind.the-variants.{Fixed, VirtReg}
 use Rattle.job.specs.Model.{zeroWeight}
-use Rattle.allocator.specs.declared.Assignment.{Assignment}
-use Rattle.allocator.specs.declared.Assignment.the-variants.{Assigned, Unassigned, Dead}
 use Rattle.reg_matrix.specs.Lists.{foldl, has}
 use Rattle.allocator.specs.Evict.{maxWeight, cheaper}
 use Rattle.allocator.specs.declared.EvictCost.{EvictCost}
 use Rattle.stage.specs.declared.evict.Tried.{Tried}
 use Rattle.stage.specs.declared.evict.Limit.{Limit}
-
--- the weight with which a record holds its register, or 0
-abbrev pub recordWeight : Assignment → Float
-recordWeight (Assigned f r w) = w
-recordWeight (Unassigned f) = zeroWeight
-recordWeight Dead = zeroWeight
 
 abbrev pub addHolder : EvictCost → Float → Float → EvictCost
 addHolder k w s = record { «preference_weight» = add binary32 (k .«preference_weight») w; «spill_weight» = maxWeight (k .«spill_weight») s }

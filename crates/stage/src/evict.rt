@@ -1,9 +1,8 @@
 // Costs of an eviction (`evict.rs`): two weights held together and replaced together.
 ghost use mathlib.Core.Path.{_≡_};
 ghost use Rattle.allocator.specs.Evict.{maxWeight, cheaper};
-ghost use Rattle.stage.specs.EvictWalk.{recordWeight, addHolder, mayEvict, canWin, withHolder, triedBelow};
+ghost use Rattle.stage.specs.EvictWalk.{addHolder, mayEvict, canWin, withHolder, triedBelow};
 ghost use Rattle.matrix.specs.Walk.{lent, remaining};
-use allocator::Assignment;
 use allocator::EvictCost;
 use lent::at_float;
 use matrix::Cursor;
@@ -27,23 +26,6 @@ pub struct Limit {
     pub flag: bool,
     pub own: f32,
     pub best: EvictCost,
-}
-
-// The weight with which a record holds its register, or 0.
-pub fn held_weight(a: Assignment) -> f32
-    ensures { λ r. ⌜ r ≡ recordWeight a ⌝ }
-{
-    match a {
-        Assignment::Assigned {
-            evicted_for_preference: _,
-            reg: _,
-            preference_weight,
-        } => preference_weight,
-        Assignment::Unassigned {
-            evicted_for_preference: _,
-        } => 0.0,
-        Assignment::Dead => 0.0,
-    }
 }
 
 // The heavier of two weights.

@@ -3,8 +3,8 @@ use borrow.Author.Needs.{needs}
 use native.Mathlib.Omega.{arith}
 use mathlib.Core.Path.{_≡_, refl, sym, ap, _∙_}
 use lib.ListN.{length}
-use Rattle.decisions.specs.Deciding.{flagIn}
-use Rattle.context.specs.Slices.{lentRecords}
+use Rattle.records.specs.Fields.{flagIn}
+use Rattle.records.specs.Slices.{lentRecords}
 use Rattle.run_loop.specs.Running.{lentJob, lentState}
 use Rattle.run_loop.proofs.RunLaws.{RunTo, run-start, run-done, run-spent, run-more, run-toomany, reads-of}
 use Rattle.run_loop.proofs.run_lent.Statement.{statement}

@@ -1,6 +1,6 @@
 use borrow.Author.Needs.{needs}
 use mathlib.Core.Path.{refl, _∙_}
-use Rattle.context.proofs.SliceLaws.{stored-all}
+use Rattle.records.proofs.SliceLaws.{stored-all}
 use Rattle.run_loop.proofs.RunLaws.{run-whole}
 use Rattle.run_loop.proofs.run_on.Statement.{statement}
 use Rattle.run_loop.proofs.run_on.Tie as tie

@@ -3,7 +3,7 @@ use borrow.Author.Needs.{needs}
 use Prim.Native.Nat.{_-_}
 use mathlib.Core.Path.{_≡_, refl, sym, _∙_}
 use lib.ListN.{length}
-use Rattle.context.specs.Slices.{lentRecords}
+use Rattle.records.specs.Slices.{lentRecords}
 use Rattle.context.proofs.CarryLaws.{EvictedTo, evict-start, evict-end, evict-pass, evict-idle, evict-one}
 use Rattle.context.proofs.carry.evict_all.Statement.{statement}
 use Rattle.context.proofs.carry.evict_all.Tie as tie

@@ -1,0 +1,28 @@
+use borrow.Author.Tests.{eq-eqb, ne-eqb}
+use Rattle.records.proofs.assignment.record_by.Statement.{statement}
+use Rattle.records.proofs.assignment.record_by.Tie as tie
+
+returns : tie.Need-returns
+returns c = rw (eq-eqb _ 0 (c .if1 .taken))
+
+returns-2 : tie.Need-returns-2
+returns-2 c = rw (ne-eqb _ 0 (c .before .if1 .left), eq-eqb _ 1 (c .if2 .taken))
+
+returns-3 : tie.Need-returns-3
+returns-3 c = rw (ne-eqb _ 0 (c .before .before .if1 .left), ne-eqb _ 1 (c .before .if2 .left), eq-eqb _ 4 (c .if3 .taken))
+
+returns-4 : tie.Need-returns-4
+returns-4 c = rw (ne-eqb _ 0 (c .before .before .before .if1 .left), ne-eqb _ 1 (c .before .before .if2 .left), ne-eqb _ 4 (c .before .if3 .left), eq-eqb _ 5 (c .if4 .taken))
+
+returns-5 : tie.Need-returns-5
+returns-5 c = rw (ne-eqb _ 0 (c .before .before .before .if1 .left), ne-eqb _ 1 (c .before .before .if2 .left), ne-eqb _ 4 (c .before .if3 .left), ne-eqb _ 5 (c .if4 .left))
+
+pub record-by-spec : {M : Type 1} → statement M
+record-by-spec =
+    tie.close
+    (tie.spec
+    returns
+    returns-2
+    returns-3
+    returns-4
+    returns-5)
