@@ -8,6 +8,7 @@ use mathlib.Core.List.{List, [], _∷_, _++_, append-assoc, List·Memᴰ·head, 
 use mathlib.Core.Bool.{Bool, true, false, not, _&&_, cond}
 use lib.Dec.{T, ltb, leb, eqb, ltb→lt, lt→ltb, le→leb, eqb→eq}
 use lib.ListN.{getD, drop}
+use lib.Ieee.Bits.{is-true}
 use Rattle.reg_matrix.specs.Lists.{ascii, concatMap}
 use Rattle.reg_matrix.specs.Lines.{digits, number, sp, indexText, reservationText, entryLine, tableLines}
 use Rattle.reg_matrix.specs.declared.Entry.{Entry}
@@ -15,7 +16,7 @@ use Rattle.reg_matrix.specs.declared.Reservation.{Reservation}
 use Rattle.reg_matrix.specs.declared.Reservation.the-variants.{Held, FixedUse, FixedDef}
 use Rattle.reg_matrix.specs.declared.FixedIndex.{FixedIndex}
 use Rattle.reg_matrix.specs.declared.FixedIndex.the-variants.{At, NoIndex}
-use Rattle.reg_matrix.proofs.Tests.{both-in}
+use Rattle.reg_matrix.proofs.Tests.{both-in, never}
 use Rattle.reg_matrix.proofs.Members.{_∈_, not-nothing}
 
 -- ---- numbers
@@ -31,14 +32,6 @@ readOn false a c s r = (a, c ∷ s)
 read : ℕ → List ℕ → ℕ × List ℕ
 read a [] = (a, [])
 read a (c ∷ s) = readOn (isDigit c) a c s (read (a * 10 + (c - 48)) s)
-
-is-true : (b : Bool) → T b → b ≡ true
-is-true true t = refl
-is-true false t = absurd t
-
-is-false : (b : Bool) → (T b → ⊥) → b ≡ false
-is-false true h = absurd (h tt)
-is-false false h = refl
 
 read-digit : (a x : ℕ) (s : List ℕ) → x < 10 → read a ((48 + x) ∷ s) ≡ read (a * 10 + x) s
 unfolding read
@@ -147,7 +140,7 @@ unfolding ascii
 read-index NoIndex s h = refl
 read-index (At i) s h =
     ap (λ (b : Bool). cond b (NoIndex, drop 1 l) (asAt (read 0 l)))
-    (is-false (eqb (getD l 0 0) 45) (λ t. omega (arith, head-number i (10 ∷ s), eqb→eq (getD l 0 0) 45 t)))
+    (never (eqb (getD l 0 0) 45) (λ t. omega (arith, head-number i (10 ∷ s), eqb→eq (getD l 0 0) 45 t)))
     ∙ ap asAt (read-number i 10 s h tt)
   where
     l : List ℕ

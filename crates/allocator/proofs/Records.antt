@@ -143,10 +143,6 @@ module _ (j : Job) (s : State) (g : Good j s) where
         ∙ ap (λ (o : Option ℕ). set (lastWords s) (virtReg j v .valueSet) (lastWord o))
         (getD-set-same (s .last) (virtReg j v .valueSet) (some (c .reg)) none (omega (arith, g .premises .small-sets v b, g .agrees .sizes .last)))
 
-    pub lose-last : (r : ℕ) → lastWords (lose j v r s) ≡ lastWords s
-    unfolding lastWords lose
-    lose-last r = refl
-
     pub leave-last : lastWords (leave v s) ≡ lastWords s
     unfolding lastWords leave
     leave-last = refl
@@ -154,3 +150,8 @@ module _ (j : Job) (s : State) (g : Good j s) where
     pub requeue-last : (q : Option Stage) → lastWords (requeue v q s) ≡ lastWords s
     unfolding lastWords requeue
     requeue-last q = refl
+
+-- an eviction leaves the last registers
+pub lose-last : (j : Job) (v r : ℕ) (s : State) → lastWords (lose j v r s) ≡ lastWords s
+unfolding lastWords lose
+lose-last j v r s = refl

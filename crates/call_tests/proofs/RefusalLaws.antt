@@ -16,6 +16,7 @@ use lib.Seq.{take-all}
 use borrow.Author.Tests.{lt-ltb, le-ltb, lt-leb, ne-eqb}
 use Rattle.reg_matrix.specs.Lists.{any, has, count, isNil, isSome}
 use Rattle.reg_matrix.specs.Refusals.{Test, refusal, _if_, shortBuffer}
+use Rattle.reg_matrix.proofs.Places.{any-at}
 use Rattle.reg_matrix.proofs.Tests.{same-test, eqb-in, passes-or-not}
 use Rattle.reg_matrix.specs.declared.Interference.{Interference}
 use Rattle.matrix.specs.Walk.{refusalNumber as numberOf}
@@ -158,14 +159,6 @@ module _ (cs cr classes sets starts hints : List ℕ) (n v r kind : ℕ) (class 
       → x ≡ namedIn cs cr classes sets starts hints n v r
   unfolding namedIn
   named-sets e t x pt px = rw (← class-names, e) (px ∙ ap (λ (t : ℕ). any (hintedAt sets starts hints t r) (count 0 n)) pt)
-
--- a test by number is one of what has the number
-any-at : {A : Type 0} (d : A) (p : A → Bool) (q : ℕ → Bool) (xs : List A) (i : ℕ) → ((k : ℕ) → k < length xs → q (i + k) ≡ p (getD xs k d))
-    → any q (count i (length xs)) ≡ any p xs
-unfolding any count
-any-at d p q [] i h = refl
-any-at d p q (x ∷ xs) i h =
-    ap₂ _||_ (ap q (omega arith) ∙ h 0 (omega arith)) (any-at d p q xs (suc i) (λ k l. ap q (omega arith) ∙ h (suc k) (omega arith)))
 
 has-any : (r : ℕ) (hs : List Hint) → has r (map (λ (h : Hint). h .reg) hs) ≡ any (λ h. eqb (h .reg) r) hs
 unfolding has any

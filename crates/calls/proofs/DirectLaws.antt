@@ -291,7 +291,7 @@ module _ (header : JobHeader) (B : JobSlices) (v : ℕ) (S : StateBuffers) (rs :
                       tos-are = jb .reads .tos;
                     })
                     (st .stands .moves) c e (sym (pg ∙ ap regIn a-is));
-                last-is = st .stands .last-is ∙ ap (λ (l : List ℕ). l ++ t .last) (sym (lose-last j s g v b (c .reg)));
+                last-is = st .stands .last-is ∙ ap (λ (l : List ℕ). l ++ t .last) (sym (lose-last j v (c .reg) s));
               };
           records-are =
               pr

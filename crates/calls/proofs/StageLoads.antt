@@ -40,7 +40,8 @@ use Rattle.context.specs.Standing.{JobStands, Stands}
 use Rattle.context.proofs.CarryLaws.{begins-take}
 use Rattle.run_loop.specs.Running.{lentState}
 use Rattle.calls.specs.Calling.{sizesOf, StateStands}
-use Rattle.calls.specs.StageLoading.{laterState, laterJob, StageLoadParts, StageLoadDone, firstRecords}
+use Rattle.calls.specs.StageLoading.{laterState, laterJob, StageLoadParts, StageLoadDone}
+use Rattle.records.specs.Fields.{firstRecords}
 use Rattle.calls.specs.Trace.{JustLoaded}
 
 -- ---- 15, for all that is lent

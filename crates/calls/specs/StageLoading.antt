@@ -3,14 +3,11 @@
 use Prim.Native.Nat.{ℕ}
 use mathlib.Core.Path.{_≡_}
 use mathlib.Core.List.{List, _++_}
-use mathlib.Core.Bool.{false}
-use lib.ListN.{drop, replicate}
+use lib.ListN.{drop}
 use Rattle.reg_matrix.specs.Layout.{maxEntries, endWords, restWords}
 use Rattle.job.specs.Model.{Job}
 use Rattle.job.specs.Load.{Loaded, notLoaded, loaded}
 use Rattle.job.specs.Layout.{JobSlices, headerOf}
-use Rattle.allocator.specs.declared.Assignment.{Assignment}
-use Rattle.allocator.specs.declared.Assignment.the-variants.{Unassigned}
 use Rattle.allocator.specs.State.{freshState}
 use Rattle.allocator.specs.Layout.{StateBuffers, queueWords, lastWords}
 use Rattle.allocator.specs.Calls.{load}
@@ -40,7 +37,3 @@ StageLoadParts B S B′ S′ r (loaded j) = (r ≡ Is (headerOf j)) × (B′ ≡
 -- loading the bytes, where B and S are lent, answers r and leaves B′ and S′: a refusal leaves all as it was
 pub record StageLoadDone (bytes : List ℕ) (B : JobSlices) (S : StateBuffers) (B′ : JobSlices) (S′ : StateBuffers) (r : JobLoaded) : Type 0 where
   pub parts : StageLoadParts B S B′ S′ r (load (sizesOf B S) bytes)
-
--- 01, "Where the Rust's forms give way": "The 512 records start out unassigned"
-abbrev pub firstRecords : List Assignment
-firstRecords = replicate 512 (Unassigned false)

@@ -1,9 +1,8 @@
-// Loading a stage: the job, its table, the queue and the last registers, and the records as they start out.
+// Loading a stage: the job, its table, the queue and the last registers.
 ghost use mathlib.Core.Path.{_≡_};
 ghost use Rattle.job.specs.Layout.{slices};
 ghost use Rattle.run_loop.specs.Running.{lentState};
-ghost use Rattle.calls.specs.StageLoading.{StageLoadDone, firstRecords};
-use allocator::Assignment;
+ghost use Rattle.calls.specs.StageLoading.{StageLoadDone};
 use job::HINT_STARTS;
 use job::SIZES;
 use lent::from16;
@@ -12,18 +11,9 @@ use lent::pad8;
 use loader::load::JobLoaded;
 use queue::init;
 
-// The initial standing of all virtual registers: unassigned, with the flag off.
-pub fn first_records() -> [Assignment; 512]
-    ensures { λ r. ⌜ r ≡ firstRecords ⌝ }
-{
-    [Assignment::Unassigned {
-        evicted_for_preference: false,
-    }; 512]
-}
-
 // Loads the job of these bytes into what is lent: tests 15, the job's length (4), its fields in byte order, then 2, 10, 11, 12. A refusal answers
-// its number and leaves everything as it was; else all wait in the queue at stage Evict, no set has a last register, and `first_records` are the
-// records.
+// its number and leaves everything as it was; else all wait in the queue at stage Evict, no set has a last register, and `records::first_records`
+// are the records.
 pub fn load(
     s: &[u8],
     job64: &mut [u64],

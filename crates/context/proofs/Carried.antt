@@ -23,7 +23,7 @@ use Rattle.allocator.specs.Dequeue.{Decision, leaves, takes, splits, fails, dec
 use Rattle.allocator.specs.Reached.{Reached}
 use Rattle.allocator.proofs.Runs.{evictAll-keeps}
 use Rattle.allocator.proofs.Good.{Good, Idle, good-reached, queued-idle, takes-good, reached-evict-all}
-use Rattle.allocator.proofs.Records.{give-records, leave-records, requeue-records, leave-last, requeue-last}
+use Rattle.allocator.proofs.Records.{give-records, leave-records, requeue-records, lose-last, leave-last, requeue-last}
 use Rattle.stage.proofs.ReachedSearch.{record-read}
 use Rattle.queue.specs.QueueWalk.{keyOf, setWord}
 use Rattle.context.specs.Standing.{Stands}
@@ -58,11 +58,6 @@ flag-read j s g v known t =
     go true t o = absurd t
     go false t none = refl
     go false t (some c) = refl
-
--- an eviction leaves the last registers
-same-last : (j : Job) (v r : ℕ) (s : State) → lastWords (lose j v r s) ≡ lastWords s
-unfolding lastWords lose
-same-last j v r s = refl
 
 took : (j : Job) (s : State) (v : ℕ) (c : CandidateReg) (f : Bool) (vs : List ℕ) → stateOf (carryOut j s v (takes c f vs)) ≡ give j v c f (evictAll j vs s)
 unfolding carryOut
@@ -285,7 +280,7 @@ module _ (d : Decided) (v : ℕ) (rs : RecordBuffers) (maps uses sets sizes hint
             let a = takes-good j s g v i q (d .to) (d .flag) vs (sym dec ∙ ap (λ (z : Fate). decisionBy z d) x) in
             let y = evictAll j vs s in
             let m = ea .reached j s t reach e (st .moves) is in
-            let lasts : last ≡ lastWords y ++ t .last = st .last-is ∙ ap (λ (l : List ℕ). l ++ t .last) (sym (evictAll-keeps lastWords j (λ v r s. same-last j v r s) vs s)) in
+            let lasts : last ≡ lastWords y ++ t .last = st .last-is ∙ ap (λ (l : List ℕ). l ++ t .last) (sym (evictAll-keeps lastWords j (lose-last j) vs s)) in
             let o = se .reached j y t (reached-evict-all j vs s reach) k (record { moves = m .0; last-is = lasts }) (m .1) (a .idle .known) (idle-unassigned j y v (a .idle)) (a .candidate .names) (a .clear) in
             let step = by-fate d Evicts (takes (d .to) (d .flag) vs) x refl j s v q dec ∙ took j s v (d .to) (d .flag) vs in
             (subst (λ (z : State). Stands j z t ends′ rests′ queue′ last′) (sym step) (o .0), o .1 ∙ ap (λ (x : State). recordBuffers (records x)) (sym step));

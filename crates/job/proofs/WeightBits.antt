@@ -9,14 +9,8 @@ use lib.Dec.{ltb}
 use lib.Ieee.{binary32, nanBits}
 use lib.Ieee.Bits.{nanBits-above}
 use borrow.Author.Tests.{lt-ltb, le-ltb, le-leb, lt-leb, eq-eqb, ne-eqb, ltb-true, ltb-false}
+use Rattle.reg_matrix.proofs.Tests.{lt-or-le}
 use Rattle.job.specs.Load.{badSpillBits, badHintBits}
-
-lt-or-le : (a b : ℕ) → (a < b) ⊎ (b ≤ a)
-lt-or-le a b = by-test (ltb a b) refl
-  where
-    by-test : (t : Bool) → ltb a b ≡ t → (a < b) ⊎ (b ≤ a)
-    by-test true e = inl (ltb-true a b e)
-    by-test false e = inr (ltb-false a b e)
 
 pub nan-bits : (b : ℕ) → b < 2147483648 → nanBits binary32 b ≡ ltb 2139095040 b
 nan-bits b h = nanBits-above binary32 b ∙ ap (ltb 2139095040) (mod-eq-of-lt h)

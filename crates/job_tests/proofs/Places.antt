@@ -7,7 +7,7 @@ use mathlib.Core.Bool.{Bool, false, _||_}
 use mathlib.Core.List.{List, [], _∷_}
 use lib.ListN.{length, getD}
 use Rattle.reg_matrix.specs.Lists.{any, anyPair, foldl, count}
-use Rattle.reg_matrix.proofs.Places.{count-more, count-end}
+use Rattle.reg_matrix.proofs.Places.{count-more, count-end, any-at}
 
 module _ (p : ℕ → ℕ → Bool) (n i : ℕ) where
   pub pair-more : i < n → anyPair p (count i (n - i)) ≡ (any (p i) (count (i + 1) (n - (i + 1))) || anyPair p (count (i + 1) (n - (i + 1))))
@@ -33,26 +33,17 @@ both q u v = rw (u, v)
 -- ---- tests by places are tests of what stands there
 
 module _ {A : Type 0} (d : A) where
-  pub any-at : (p : A → Bool) (q : ℕ → Bool) (xs : List A) (i : ℕ) → ((k : ℕ) → k < length xs → q (i + k) ≡ p (getD xs k d)) → any q (count i (length xs)) ≡ any p xs
-  unfolding any count
-  any-at p q [] i h = refl
-  any-at p q (x ∷ xs) i h =
-      rw (first, any-at p q xs (suc i) (λ k l. ap q (omega arith) ∙ h (suc k) (omega arith)))
-    where
-      first : q i ≡ p x
-      first = ap q (omega arith) ∙ h 0 (omega arith)
-
   pub pair-at : (p : A → A → Bool) (q : ℕ → ℕ → Bool) (xs : List A) (i : ℕ) → ((k m : ℕ) → k < length xs → m < length xs → q (i + k) (i + m) ≡ p (getD xs k d) (getD xs m d)) → anyPair q (count i (length xs)) ≡ anyPair p xs
   unfolding anyPair count
   pair-at p q [] i h = refl
   pair-at p q (x ∷ xs) i h =
       rw (
-        any-at (p x) (q i) xs (suc i) (λ m l. both q (omega arith) (omega arith) ∙ h 0 (suc m) (omega arith) (omega arith)),
+        any-at d (p x) (q i) xs (suc i) (λ m l. both q (omega arith) (omega arith) ∙ h 0 (suc m) (omega arith) (omega arith)),
         pair-at p q xs (suc i) (λ k m a b. both q (omega arith) (omega arith) ∙ h (suc k) (suc m) (omega arith) (omega arith)),
       )
 
   pub anys-at : (p : A → Bool) (q : ℕ → Bool) (xs : List A) → ((k : ℕ) → k < length xs → q k ≡ p (getD xs k d)) → any q (count 0 (length xs)) ≡ any p xs
-  anys-at p q xs h = any-at p q xs 0 (λ k l. ap q (omega arith) ∙ h k l)
+  anys-at p q xs h = any-at d p q xs 0 (λ k l. ap q (omega arith) ∙ h k l)
 
   pub pairs-at : (p : A → A → Bool) (q : ℕ → ℕ → Bool) (xs : List A) → ((k m : ℕ) → k < length xs → m < length xs → q k m ≡ p (getD xs k d) (getD xs m d)) → anyPair q (count 0 (length xs)) ≡ anyPair p xs
   pairs-at p q xs h = pair-at p q xs 0 (λ k m a b. both q (omega arith) (omega arith) ∙ h k m a b)

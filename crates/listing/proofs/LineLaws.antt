@@ -10,7 +10,7 @@ use mathlib.Core.Bool.{Bool, true, false, cond}
 use lib.Dec.{ltb}
 use lib.ListN.{length, getD, take, drop, length-append}
 use lib.Seq.{sets, sets-eq, take-append-seam}
-use borrow.Author.Tests.{lt-ltb, le-ltb}
+use borrow.Author.Tests.{lt-ltb, le-ltb, ltb-true}
 use Rattle.reg_matrix.specs.Lists.{ascii, concatMap, filter, count, keep}
 use Rattle.reg_matrix.specs.Lines.{number, sp, line, refusedLine, indexText, reservationText, entryLine}
 use Rattle.reg_matrix.specs.Layout.{maxEntries, entryOf}
@@ -33,7 +33,18 @@ use Rattle.listing.specs.declared.Step.{Step}
 use Rattle.listing.specs.declared.Step.the-variants.{Line, Refused, End as NoMore}
 use Rattle.lines.proofs.TextLaws.{number-length, number-short}
 use Rattle.lines.specs.LineTexts.{Lent, standingText, isSpare, unitsText, spareText}
-use Rattle.listing.specs.Walk.{lineLimit, Found, noMore, aLine, isEntry, entryAt, spareFound, entryFound, virtRegFound, foundAt, found, moved, stepOf, printedOn, AnsweredIfLong, recordAt, spareLines, entryLines, virtRegLines, linesAt, linesFrom, linesOf}
+use Rattle.listing.specs.Walk.{numberAt, lineLimit, Found, noMore, aLine, isEntry, entryAt, spareFound, entryFound, virtRegFound, foundAt, found, moved, stepOf, printedOn, AnsweredIfLong, recordAt, spareLines, entryLines, virtRegLines, linesAt, linesFrom, linesOf}
+
+-- the number whose record a position asks for
+pub number-small : (p : Place) → numberAt p < 512
+number-small Head = omega arith
+number-small (VirtReg v) = go (ltb v 512) refl
+  where
+    go : (b : Bool) → ltb v 512 ≡ b → cond b v 0 < 512
+    go true e = ltb-true v 512 e
+    go false e = omega arith
+number-small (EntryAt i) = omega arith
+number-small End = omega arith
 
 -- ---- one by one
 

@@ -162,25 +162,6 @@ map-out f (x ∷ xs) y m = go (List·Memᴰ·cases-cons m) (λ n. map-out f xs y
     go (inl q) ih = (x, List·Memᴰ·head refl, q)
     go (inr n) ih = let k = ih n in (k .0, List·Memᴰ·tail (k .1), k .2)
 
--- a sorted table's ends
-ends-order : (x y : Entry) → Small x → Small y → Before x y → endWord x < endWord y
-unfolding Before
-ends-order x y a b (inl h) = omega (arith, a .to, b .to)
-ends-order x y a b (inr h) = omega (arith, a .to, b .to)
-
-pub ends-rise : (t : List Entry) → Sorted t → ((e : Entry) → e ∈ t → Small e) → Rises (map endWord t)
-ends-rise [] s h = tt
-ends-rise (x ∷ xs) s h = (first, ends-rise xs (s .1) (λ e m. h e (List·Memᴰ·tail m)))
-  where
-    first : (y : ℕ) → y ∈ map endWord xs → endWord x ≤ y
-    first y m =
-        let k = map-out endWord xs y m in
-        omega
-        (arith, k .2, ends-order x (k .0) (h x (List·Memᴰ·head refl)) (h (k .0) (List·Memᴰ·tail (k .1))) (before→ x (k .0) (below-out x (s .0) (k .1))))
-
--- the greatest number is above every end and every use
-pub ends-below : (e : Entry) → Small e → endWord e ≤ greatest
-ends-below e h = omega (arith, h .unit, h .to)
-
+-- the greatest number is above every use
 pub uses-below : (e : Entry) → SmallUse e → useWord e ≤ greatest
 uses-below e h = omega (arith, h .unit, h .to, h .two, h .value)

@@ -87,7 +87,7 @@ module _ (fixed : List Entry) (small : (u : ℕ) (f : Entry) → f ∈ fixedUses
           let b = h (k .0) (List·Memᴰ·tail (k .1)) in
           omega (arith, k .2, a .1, b .1, a .0 .two, a .0 .value, c .0 (k .0) (k .1))
 
-  units-rise : (i k : ℕ) → Rises (map useWord (concatMap (fixedUses fixed) (count i k)))
+  pub units-rise : (i k : ℕ) → Rises (map useWord (concatMap (fixedUses fixed) (count i k)))
   unfolding concatMap count
   units-rise i zero = tt
   units-rise i (suc k) =

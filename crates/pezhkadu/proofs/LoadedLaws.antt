@@ -30,10 +30,12 @@ use Rattle.allocator.specs.Reached.{Reached}
 use Rattle.allocator.proofs.Good.{good-reached, reached-fresh}
 use Rattle.loader.specs.declared.load.JobLoaded.the-variants.{Is}
 use Rattle.calls.specs.Calling.{sizesOf, StateStands}
-use Rattle.calls.specs.StageLoading.{laterState, laterJob, StageLoadParts, StageLoadDone, firstRecords}
+use Rattle.calls.specs.StageLoading.{laterState, laterJob, StageLoadParts, StageLoadDone}
+use Rattle.records.specs.Fields.{firstRecords}
 use Rattle.calls.specs.Trace as trace
 use Rattle.calls.proofs.StageLoads.{just-loaded}
 use Rattle.records.specs.Words.{recordWord, recordIn, recordsIn}
+use Rattle.records.proofs.WordLaws.{first-word}
 use Rattle.words.specs.Words.{probeWords, headerWords, probeIn, headerIn}
 use Rattle.pezhkadu.specs.Loading.{loadShort, LoadParts, LoadCalled, JustLoaded}
 use Rattle.pezhkadu.proofs.CallLaws.{not-both}
@@ -83,7 +85,7 @@ stored-header-back j p head l =
 
 words-first : (n : ℕ) → map recordWord (replicate n (Unassigned false)) ≡ replicate n 0
 words-first zero = refl
-words-first (suc n) = ap (λ (l : List ℕ). 0 ∷ l) (words-first n)
+words-first (suc n) = rw first-word (ap (λ (l : List ℕ). 0 ∷ l) (words-first n))
 
 stored-records-back : (ws : List ℕ) → 512 ≤ length ws → recordsIn (sets ws 0 (map recordWord firstRecords)) ≡ firstRecords
 unfolding recordsIn recordIn

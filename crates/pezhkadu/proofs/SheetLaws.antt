@@ -30,9 +30,10 @@ use Rattle.listing.specs.declared.Place.{Place}
 use Rattle.listing.specs.declared.Place.the-variants.{Head, VirtReg, Entry, End}
 use Rattle.lines.specs.LineTexts.{Lent, standingText}
 use Rattle.listing.specs.Walk.{Found, noMore, aLine, spareFound, isEntry, entryAt, entryFound, virtRegFound, foundAt, found, moved, numberAt, recordAt, linesFrom, linesOf}
-use Rattle.listing.proofs.LineLaws.{lines-told}
+use Rattle.listing.proofs.LineLaws.{number-small, lines-told}
 use Rattle.listing.proofs.SheetLaws.{Laid, together, reached-sheet}
 use Rattle.records.specs.Words.{recordIn, recordsIn}
+use Rattle.records.proofs.WordLaws.{record-in}
 use Rattle.words.specs.Words.{headerIn, endingIn, placeNumber, placeIn, standingNumber}
 use Rattle.pezhkadu.specs.Calling.{assignShort}
 use Rattle.pezhkadu.specs.Reading.{standingAnswer, listingIn, foundIn, linesAt, linesAfter}
@@ -40,10 +41,6 @@ use Rattle.words.proofs.NumberLaws.{at-virt-reg, at-entry}
 use Rattle.pezhkadu.proofs.ReadLaws.{place-is}
 
 -- ---- records
-
-record-in : (ws : List ℕ) (v : ℕ) → v < 512 → getD (recordsIn ws) v Dead ≡ recordIn (getD ws v 0)
-unfolding recordsIn
-record-in ws v h = from-zero (λ v. recordIn (getD ws v 0)) Dead 512 v h
 
 record-of : (s : State) (v : ℕ) → v < 512 → getD (records s) v Dead ≡ recordOf s v
 unfolding records
@@ -126,16 +123,6 @@ found-back c a l small = go (c .place)
 small-count : (head : List ℕ) → headerIn head .«virt_regs» < 65536
 unfolding headerIn
 small-count head = omega arith
-
-number-small : (p : Place) → numberAt p < 512
-number-small Head = omega arith
-number-small (VirtReg v) = go (ltb v 512) refl
-  where
-    go : (b : Bool) → ltb v 512 ≡ b → cond b v 0 < 512
-    go true e = ltb-true v 512 e
-    go false e = omega arith
-number-small (Entry i) = omega arith
-number-small End = omega arith
 
 moved-is : (head answer : List ℕ) (n m : ℕ) (p : Place) → placeIn m ≡ p → moved (listingIn head answer n) p ≡ listingIn head answer m
 unfolding listingIn

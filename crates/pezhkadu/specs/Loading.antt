@@ -15,7 +15,8 @@ use Rattle.allocator.specs.Calls.{load}
 use Rattle.allocator.specs.Reached.{Reached}
 use Rattle.context.specs.Standing.{JobStands}
 use Rattle.calls.specs.Calling.{sizesOf, StateStands}
-use Rattle.calls.specs.StageLoading.{laterState, laterJob, firstRecords}
+use Rattle.calls.specs.StageLoading.{laterState, laterJob}
+use Rattle.records.specs.Fields.{firstRecords}
 use Rattle.records.specs.Words.{recordWord, recordsIn}
 use Rattle.words.specs.Words.{headerLimit, headerWords, headerIn}
 use Rattle.pezhkadu.specs.Calling.{recordsLimit}

@@ -38,7 +38,7 @@ use Rattle.matrix.proofs.Walks.{remaining-step}
 use Rattle.matrix.proofs.UnitMaps.{no-units, first-unit, units-lowest}
 use Rattle.matrix.proofs.Decode.{SmallIndex, SmallReservation, Small, SmallUse}
 use Rattle.placing.proofs.Reading.{Holds, Walkable}
-use Rattle.placing.proofs.Lying.{AllSmall}
+use Rattle.placing.proofs.Lying.{AllSmall, use-small}
 use Rattle.placing.proofs.Moving.{SmallCells}
 use Rattle.placing.proofs.Reserved.{uses-few}
 use Rattle.placing.proofs.UnitWalk.{unit-start, after, after-last, after-more}
@@ -151,17 +151,6 @@ module _
                   (sn (k .0) (o .among), small-index (fixedIndex fixed (k .0 .u) (k .0 .s) fixed) (λ i q. index-size fixed sd cs t mx e m (k .0 .v) i (o .held-is ∙ ap (Held (k .0 .v)) q) .1));
             }
 
-    use-is : (r : Reservation) → T (isUse r) → r ≡ FixedUse (useValue r)
-    use-is (FixedUse x) h = refl
-    use-is FixedDef h = absurd h
-    use-is (Held v i) h = absurd h
-
-    use-small : (u : ℕ) (f : Entry) → f ∈ fixedUses fixed u → SmallUse f
-    use-small u f m =
-        let k = fixedUses-out fixed u f m in
-        let s = sf f (k .0) in
-        record { unit = s .unit; to = s .to; two = s .two (k .2); value = s .value; isuse = use-is (f .reservation) (k .2) }
-
     pub matrix-walkable : Walkable fixed t
     matrix-walkable =
         record {
@@ -172,7 +161,7 @@ module _
           chain = unit-chain fixed sd cs t mx;
           index = λ e m v i q. omega (arith, index-size fixed sd cs t mx e m v i q .0);
           few-uses = omega (arith, uses-few fixed);
-          small-uses = use-small;
+          small-uses = use-small fixed sd sf;
           use-chain = sd .chain;
         }
 

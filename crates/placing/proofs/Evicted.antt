@@ -27,10 +27,10 @@ use Rattle.reg_matrix.specs.declared.Reservation.the-variants.{Held, FixedUse, 
 use Rattle.reg_matrix.proofs.Members.{_∈_, filter-out, filter-none, drop-out, fixedUses-out}
 use Rattle.reg_matrix.proofs.Sorted.{Before, before→, below-in, below-out, Sorted, insert-there, insert-out}
 use Rattle.reg_matrix.proofs.Cells.{Nonempty, Cell, entryFor, cell, IsTable, Free}
-use Rattle.reg_matrix.proofs.Tests.{both}
+use Rattle.reg_matrix.proofs.Tests.{both, never}
 use Rattle.reg_matrix.proofs.Evicting.{evict-cell}
 use Rattle.reg_matrix.proofs.Capacity.{capacity, held-index, held-index-fixed}
-use Rattle.placing.proofs.Placed.{SmallCell, test-false}
+use Rattle.placing.proofs.Placed.{SmallCell}
 use Rattle.reg_matrix.proofs.Chains.{Chain, chain-drop, Sound, uses-nonempty}
 use Rattle.reg_matrix.proofs.Small.{SmallEntry}
 use Rattle.placing.proofs.Lying.{AllSmall, allUses, UsesLie, first-use, use-place, unit-place}
@@ -320,11 +320,11 @@ module _ (fixed : List Entry) (cs : List Cell) (t : Table) (c : Cell) (sd : Soun
 
   not-front : (e : Entry) → e ∈ at .front → mine e ≡ false
   not-front e m =
-      test-false (mine e) (λ h. let k = mine→ e h in not-before e own (k .0) (k .1) (around-before own (at .front) (at .back) at-sorted e m))
+      never (mine e) (λ h. let k = mine→ e h in not-before e own (k .0) (k .1) (around-before own (at .front) (at .back) at-sorted e m))
 
   not-back : (e : Entry) → e ∈ at .back → mine e ≡ false
   not-back e m =
-      test-false (mine e)
+      never (mine e)
       (λ h. let k = mine→ e h in not-before own e (sym (k .0)) (sym (k .1)) (around-after own (at .front) (at .back) at-sorted e m))
 
   -- evicting puts the uses back into what is left

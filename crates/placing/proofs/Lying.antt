@@ -17,11 +17,14 @@ use Rattle.matrix.specs.Search.{placeOf, Rises, below}
 use Rattle.entries.specs.Placing.{unitKey, useKey, usesBefore}
 use Rattle.reg_matrix.specs.declared.ValueSegment.{ValueSegment}
 use Rattle.reg_matrix.specs.declared.Entry.{Entry}
+use Rattle.reg_matrix.specs.declared.Reservation.{Reservation}
+use Rattle.reg_matrix.specs.declared.Reservation.the-variants.{Held, FixedUse, FixedDef}
 use Rattle.reg_matrix.proofs.Members.{_∈_, filter-none, fixedUses-out, concat-out}
 use Rattle.reg_matrix.proofs.Cells.{Nonempty}
 use Rattle.reg_matrix.proofs.Small.{SmallEntry}
 use Rattle.reg_matrix.proofs.Chains.{Chain, Sound, uses-nonempty}
-use Rattle.matrix.proofs.Decode.{rises-append}
+use Rattle.matrix.proofs.Decode.{SmallUse}
+use Rattle.matrix.proofs.UseWords.{units-rise}
 use Rattle.placing.proofs.Standing.{below-step, below-past, below-none, below-all, below-append, found-padded}
 
 abbrev pub AllSmall : List Entry → Type 0
@@ -62,28 +65,19 @@ module _ (fixed : List Entry) (sd : Sound fixed) (sm : AllSmall fixed) where
       go (inl h) ih = use-of-unit k x h .low
       go (inr h) ih = omega (arith, ih h)
 
-  -- ---- they rise
+  use-is : (r : Reservation) → T (isUse r) → r ≡ FixedUse (useValue r)
+  use-is (FixedUse x) h = refl
+  use-is FixedDef h = absurd h
+  use-is (Held v i) h = absurd h
 
-  unit-rises : (u : ℕ) (us : List Entry) → Nonempty us → Chain us → ((e : Entry) → e ∈ us → (e .unit ≡ u) × SmallEntry e) → Rises (map useWord us)
-  unit-rises u [] ne ch h = tt
-  unit-rises u (x ∷ us) ne ch h = (
-    (λ y m. let k = Memᴰ·of-map useWord us m in
-        subst (λ (z : ℕ). useWord x ≤ z) (k .2)
-        (omega
-        (arith, ne x (List·Memᴰ·head refl), ch .0 (k .0) (k .1), h x (List·Memᴰ·head refl) .0, h (k .0) (List·Memᴰ·tail (k .1)) .0, h x (List·Memᴰ·head refl) .1 .value))),
-    unit-rises u us (λ y m. ne y (List·Memᴰ·tail m)) (ch .1) (λ e m. h e (List·Memᴰ·tail m)),
-  )
+  pub use-small : (u : ℕ) (f : Entry) → f ∈ fixedUses fixed u → SmallUse f
+  use-small u f m =
+      let k = fixedUses-out fixed u f m in
+      let s = sm f (k .0) in
+      record { unit = s .unit; to = s .to; two = s .two (k .2); value = s .value; isuse = use-is (f .reservation) (k .2) }
 
-  all-rise : (k n : ℕ) → Rises (map useWord (concatMap (fixedUses fixed) (count k n)))
-  unfolding concatMap count
-  all-rise k zero = tt
-  all-rise k (suc n) =
-      subst Rises (sym (map-append useWord (fixedUses fixed k) (concatMap (fixedUses fixed) (count (suc k) n))))
-      (rises-append (map useWord (fixedUses fixed k)) (map useWord (concatMap (fixedUses fixed) (count (suc k) n)))
-      (unit-rises k (fixedUses fixed k) (uses-nonempty fixed sd k) (sd .chain k)
-      (λ e m. let l = fixedUses-out fixed k e m in (l .1, sm e (l .0))))
-      (all-rise (suc k) n)
-      (λ x y m o. omega (arith, use-of-unit k x m .high, use-of-later (suc k) n y o)))
+  all-rise : Rises (map useWord (allUses fixed))
+  all-rise = units-rise fixed use-small (sd .chain) 0 64
 
   all-small : (x : ℕ) → x ∈ map useWord (allUses fixed) → x < greatest
   all-small x m =
@@ -158,7 +152,7 @@ module _ (fixed : List Entry) (sd : Sound fixed) (sm : AllSmall fixed) where
   unfolding useWords
   use-count ut uses lie =
       ap (λ (l : List ℕ). placeOf maxFixed l greatest) (lie .are)
-      ∙ found-padded maxFixed (map useWord (allUses fixed)) greatest ut greatest (simp length-map (lie .few)) (all-rise 0 64) all-small (omega arith)
+      ∙ found-padded maxFixed (map useWord (allUses fixed)) greatest ut greatest (simp length-map (lie .few)) all-rise all-small (omega arith)
       ∙ below-all greatest (map useWord (allUses fixed)) all-small
       ∙ length-map (allUses fixed) useWord
 
@@ -172,7 +166,7 @@ module _ (fixed : List Entry) (sd : Sound fixed) (sm : AllSmall fixed) where
     use-place p h =
         let z : u - 0 ≡ u = omega arith in
         ap (λ (l : List ℕ). placeOf maxFixed l (useKey u p)) (lie .are)
-        ∙ found-padded maxFixed (map useWord (allUses fixed)) greatest ut (useKey u p) (simp length-map (lie .few)) (all-rise 0 64) all-small (omega (arith, small, h))
+        ∙ found-padded maxFixed (map useWord (allUses fixed)) greatest ut (useKey u p) (simp length-map (lie .few)) all-rise all-small (omega (arith, small, h))
         ∙ units-below 0 64 u p (omega arith) (omega arith) h
         ∙ ap (λ (n : ℕ). length (concatMap (fixedUses fixed) (count 0 n)) + length (filter (earlier p) (fixedUses fixed u))) z
 

@@ -9,6 +9,7 @@ use mathlib.Core.List.{List, [], _∷_, _++_, map, List·Memᴰ·head, List·Mem
 use mathlib.Core.Bool.{Bool, true, false, not, cond}
 use lib.Dec.{T, ltb}
 use lib.ListN.{length}
+use lib.Ieee.Bits.{is-true}
 use borrow.Author.Tests.{lt-ltb, le-ltb}
 use Rattle.reg_matrix.specs.Lists.{filter, any, isNil}
 use Rattle.reg_matrix.specs.Table.{Table, fixedUses}
@@ -20,6 +21,7 @@ use Rattle.entries.specs.Placing.{indexPart, heldWord, assigningSegment}
 use Rattle.reg_matrix.specs.declared.Entry.{Entry}
 use Rattle.reg_matrix.specs.declared.FixedIndex.the-variants.{At, NoIndex}
 use Rattle.reg_matrix.specs.declared.Reservation.the-variants.{Held}
+use Rattle.reg_matrix.proofs.Tests.{never}
 use Rattle.reg_matrix.proofs.Members.{_∈_, filter-out}
 use Rattle.reg_matrix.proofs.Sorted.{Sorted, sorted-filter}
 use Rattle.reg_matrix.proofs.Cells.{Disjoint, replaced→, →replaced, →overlaps, Cell, entryFor, Laid, reserved, cell, IsTable, Free}
@@ -45,14 +47,6 @@ pub record Parts (a b : ℕ) (p : Entry → Bool) (t : Table) : Type 0 where
 -- p passes exactly the entries numbered from a to below b
 abbrev pub Tells : ℕ → ℕ → (Entry → Bool) → Entry → Type 0
 Tells a b p e = (T (p e) → (a ≤ endWord e) × (endWord e < b)) × (a ≤ endWord e → endWord e < b → T (p e))
-
-pub test-true : (c : Bool) → T c → c ≡ true
-test-true true h = refl
-test-true false h = absurd h
-
-pub test-false : (c : Bool) → (T c → ⊥) → c ≡ false
-test-false true h = absurd (h tt)
-test-false false h = refl
 
 no-length : {A : Type 0} (xs : List A) → 0 ≡ length xs → xs ≡ []
 no-length [] q = refl
@@ -118,9 +112,9 @@ module _ (a b : ℕ) (p : Entry → Bool) (ab : a ≤ b) where
           (λ y m. let z = words-above x t (so .0) (sm x (List·Memᴰ·head refl)) (λ e n. sm e (List·Memᴰ·tail n)) y m in omega (arith, z))
 
       go : Dec (endWord x < a) → Dec (endWord x < b) → Parts a b p t → Parts a b p (x ∷ t)
-      go (yes u) v k = in-front x t (test-false (p x) (λ c. let z = tells .0 c .0 in omega (arith, z))) u k
-      go (no u) (yes v) k = in-middle x t (test-true (p x) (tells .1 (omega arith) v)) (omega arith) v (none a (omega arith)) k
-      go (no u) (no v) k = in-back x t (test-false (p x) (λ c. let z = tells .0 c .1 in omega (arith, z))) (omega arith) (none a (omega arith)) (none b (omega arith)) k
+      go (yes u) v k = in-front x t (never (p x) (λ c. let z = tells .0 c .0 in omega (arith, z))) u k
+      go (no u) (yes v) k = in-middle x t (is-true (p x) (tells .1 (omega arith) v)) (omega arith) v (none a (omega arith)) k
+      go (no u) (no v) k = in-back x t (never (p x) (λ c. let z = tells .0 c .1 in omega (arith, z))) (omega arith) (none a (omega arith)) (none b (omega arith)) k
 
 -- ---- the entries that a free cell replaces are those that end inside it
 

@@ -30,17 +30,6 @@ module _ (uses : List ℕ) (v u : ℕ) (froms tos : List ℕ) (i : ℕ) (w w′ 
   unfolding assigningUnit
   unit-end h = rw (drop-of-length-le froms h)
 
--- ---- a fold over a list's places
-
-module _ {B : Type 0} (f : B → ℕ → B) (xs : List ℕ) (i : ℕ) (b b′ : B) where
-  pub fold-more : i < length xs → b′ ≡ f b (getD xs i 0) → foldl f b′ (drop (i + 1) xs) ≡ foldl f b (drop i xs)
-  unfolding foldl
-  fold-more h q = rw (q, drop-cons xs i 0 h, add-one i)
-
-  pub fold-end : length xs ≤ i → foldl f b (drop i xs) ≡ b
-  unfolding foldl
-  fold-end h = rw (drop-of-length-le xs h)
-
 -- ---- fixed uses that go in
 
 pub uses-more : (j last : ℕ) (uses : List ℕ) (w w′ : Words) → j < last → w′ ≡ insertingUse (getD uses j 0) w → insertingUses (last - (j + 1)) (j + 1) uses w′ ≡ insertingUses (last - j) j uses w

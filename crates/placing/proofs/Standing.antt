@@ -18,22 +18,18 @@ use Rattle.matrix.specs.Search.{placeOf, Rises, below}
 use Rattle.entries.specs.Moves.{Words, entries, inserted, removed, inserting, removing, removingRun}
 use Rattle.reg_matrix.specs.declared.Entry.{Entry}
 use Rattle.reg_matrix.proofs.Places.{insert-longer}
-use Rattle.reg_matrix.proofs.Tests.{same-test}
+use Rattle.reg_matrix.proofs.Tests.{same-test, lt-or-le}
 use Rattle.reg_matrix.proofs.Members.{_∈_}
 use Rattle.reg_matrix.proofs.Sorted.{Before, before→, →before, Below, below-out, below-in, Sorted}
 use Rattle.matrix.proofs.Halves.{below-length, place-searched}
 pub use Rattle.matrix.proofs.Halves.{none-below as below-none}
-use Rattle.matrix.proofs.Decode.{replicate-in}
+use Rattle.matrix.proofs.Decode.{replicate-in, replicate-rises}
 use Rattle.entries.proofs.Shifts.{inserted-room, removed-room}
 
 -- ---- numbers that rise, and what is behind them
 
-rises-replicate : (m d : ℕ) → Rises (replicate m d)
-rises-replicate zero d = tt
-rises-replicate (suc n) d = ((λ y m. let q = replicate-in n d y m in omega (arith, q)), rises-replicate n d)
-
 pub rises-padded : (xs : List ℕ) (m d : ℕ) → Rises xs → ((y : ℕ) → y ∈ xs → y < d) → Rises (xs ++ replicate m d)
-rises-padded [] m d r h = rises-replicate m d
+rises-padded [] m d r h = replicate-rises m d
 rises-padded (x ∷ xs) m d r h = (first, rises-padded xs m d (r .1) (λ y n. h y (List·Memᴰ·tail n)))
   where
     go : (y : ℕ) → (y ∈ xs) ⊎ (y ∈ replicate m d) → x ≤ y
@@ -88,14 +84,11 @@ SmallEnds t = (e : Entry) → e ∈ t → SmallEnd e
 
 pub before-word : (a b : Entry) → SmallEnd a → SmallEnd b → before a b ≡ ltb (endWord a) (endWord b)
 unfolding Before
-before-word a b x y = same-test (before a b) (ltb (endWord a) (endWord b)) (λ h. lt→ltb _ _ (up (before→ a b h))) (λ h. →before a b (down (ltb→lt _ _ h) (decides (a .unit) (b .unit))))
+before-word a b x y = same-test (before a b) (ltb (endWord a) (endWord b)) (λ h. lt→ltb _ _ (up (before→ a b h))) (λ h. →before a b (down (ltb→lt _ _ h) (lt-or-le (a .unit) (b .unit))))
   where
     up : Before a b → endWord a < endWord b
     up (inl h) = omega (arith, x .to)
     up (inr h) = omega (arith, h .0, h .1)
-
-    decides : (m n : ℕ) → (m < n) ⊎ (n ≤ m)
-    decides m n = elim (decLt m n) as (λ _. (m < n) ⊎ (n ≤ m)) [ yes h ↦ inl h | no h ↦ inr (omega arith) ]
 
     down : endWord a < endWord b → (a .unit < b .unit) ⊎ (b .unit ≤ a .unit) → Before a b
     down h (inl k) = inl k
@@ -104,7 +97,7 @@ before-word a b x y = same-test (before a b) (ltb (endWord a) (endWord b)) (λ h
 pub word-small : (e : Entry) → SmallEnd e → endWord e < greatest
 word-small e s = omega (arith, s .unit, s .to)
 
-words-small : (t : Table) → SmallEnds t → (y : ℕ) → y ∈ map endWord t → y < greatest
+pub words-small : (t : Table) → SmallEnds t → (y : ℕ) → y ∈ map endWord t → y < greatest
 words-small t s y m = let k = Memᴰ·of-map endWord t m in subst (λ (z : ℕ). z < greatest) (k .2) (word-small (k .0) (s (k .0) (k .1)))
 
 -- the numbers of what comes after an entry are above its own

@@ -8,7 +8,7 @@ use mathlib.Core.Logic.{_⊎_, inl, inr}
 use mathlib.Core.List.{List, [], _∷_, _++_, map, append-assoc, List·Memᴰ·head, List·Memᴰ·tail, List·Memᴰ·cases-cons, Memᴰ·map}
 use mathlib.Core.Bool.{Bool, true, false, not, _&&_, _||_, cond, or-true}
 use lib.Dec.{ltb, eqb, eqb→eq}
-use lib.ListN.{length, take, drop, getD, replicate, length-map}
+use lib.ListN.{length, take, drop, getD, length-map, take-append-drop}
 use lib.Seq.{drop-nil}
 use lib.Count.{trailingZeros, trailing-le}
 use borrow.Author.Tests.{lt-ltb, le-ltb, le-leb, lt-leb, eq-eqb, ne-eqb, ltb-true, ltb-false, eqb-true, eqb-false}
@@ -38,9 +38,13 @@ use Rattle.matrix.proofs.Walks.{remaining-step}
 use Rattle.matrix.proofs.Passing.{ahead, behind, meets, counts-same, counts-stay, counts-once, check-end, check-empty, pass-entry, pass-segment, pass-stay, pass-on}
 use Rattle.reg_matrix.proofs.Places.{padded-length}
 use Rattle.matrix.proofs.UseWords.{uses-at, back-other, below-front, taken-length}
-use Rattle.matrix.proofs.Decode.{Small, SmallUse, ends-rise, ends-below, rises-append, replicate-in, replicate-rises, map-out, use-back, use-value, drop-next, drop-inside}
+use Rattle.matrix.proofs.Decode.{Small, SmallUse, use-back, use-value, drop-next, drop-inside}
+use Rattle.placing.proofs.Standing.{SmallEnds, words-small, words-rise, found-padded}
 use Rattle.placing.proofs.Lying.{allUses}
 use Rattle.placing.proofs.Reading.{Holds, Walkable, entry-here, entry-past, use-here, use-past, step-no-segment, step-no-entry, step-other, step-entry, step-use}
+
+small-ends : (t : Table) → ((e : Entry) → e ∈ t → Small e) → SmallEnds t
+small-ends t h e m = record { unit = h e m .unit; to = h e m .to }
 
 -- ---- the fixed uses under an entry
 
@@ -594,36 +598,16 @@ module _ (fixed : List Entry) (t : Table) (W : Lent) (L : Holds fixed t W) (P : 
               where
                 first : (y ≡ endWord x) ⊎ (y ∈ map endWord xs) → key ≤ y
                 first (inl p) = omega (arith, p, ltb-false (endWord x) key q)
-                first (inr n) = omega (arith, ltb-false (endWord x) key q, ends-rise (x ∷ xs) so sm .0 y n)
+                first (inr n) = omega (arith, ltb-false (endWord x) key q, words-rise (x ∷ xs) so (small-ends (x ∷ xs) sm) .0 y n)
 
-  -- ---- the table's ends as they are lent
-
-  padding : List ℕ
-  padding = replicate (maxEntries - length (map endWord t)) greatest
-
-  ends-are : take maxEntries (W .ends) ≡ map endWord t ++ padding
-  unfolding padding endWords padded
-  ends-are = L .ends
-
-  ends-rising : Rises (take maxEntries (W .ends))
-  unfolding padding
-  ends-rising =
-      subst Rises (sym ends-are)
-      (rises-append (map endWord t) padding (ends-rise t (P .sorted) (P .small)) (replicate-rises (maxEntries - length (map endWord t)) greatest)
-      (λ x y j n.
-      let c = map-out endWord t x j in
-      omega (arith, c .2, ends-below (c .0) (P .small (c .0) (c .1)), replicate-in (maxEntries - length (map endWord t)) greatest y n)))
-
-  ends-long : maxEntries ≤ length (W .ends)
-  unfolding endWords
-  ends-long = taken-length maxEntries (W .ends) (endWords t) (L .ends) (padded-length maxEntries greatest (map endWord t) (simp length-map (P .room)))
-
+  -- a search in the table's ends as they are lent
   place-is : (from : ℕ) → from < 2 ^ 32 → placeOf maxEntries (W .ends) (u * 2 ^ 32 + from + 1) ≡ below (u * 2 ^ 32 + from + 1) (map endWord t)
-  unfolding padding u
+  unfolding u endWords
   place-is from f =
-      place-searched maxEntries (W .ends) (u * 2 ^ 32 + from + 1) .counted ends-long ends-rising
-      ∙ (ap (below (u * 2 ^ 32 + from + 1)) ends-are
-      ∙ below-front (u * 2 ^ 32 + from + 1) (map endWord t) padding (λ y j. omega (arith, replicate-in (maxEntries - length (map endWord t)) greatest y j, low, f)))
+      let parted : W .ends ≡ padded maxEntries greatest (map endWord t) ++ drop maxEntries (W .ends) = sym (take-append-drop maxEntries (W .ends)) ∙ ap (λ (l : List ℕ). l ++ drop maxEntries (W .ends)) (L .ends) in
+      ap (λ (l : List ℕ). placeOf maxEntries l (u * 2 ^ 32 + from + 1)) parted
+      ∙ found-padded maxEntries (map endWord t) greatest (drop maxEntries (W .ends)) (u * 2 ^ 32 + from + 1) (simp length-map (P .room)) (words-rise t (P .sorted) (small-ends t (P .small)))
+      (words-small t (small-ends t (P .small))) (omega (arith, low, f))
 
   counts-first : (y : Entry) → counts full [] y ≡ true
   unfolding any

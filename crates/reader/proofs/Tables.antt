@@ -11,6 +11,7 @@ use borrow.Author.Tests.{eqb-true, eqb-false}
 use Rattle.reg_matrix.specs.Lists.{foldl, concatMap}
 use Rattle.reg_matrix.specs.declared.ValueSegment.{ValueSegment}
 use Rattle.reg_matrix.specs.declared.Entry.{Entry}
+use Rattle.reg_matrix.proofs.Places.{replicate-default}
 use Rattle.job.specs.declared.Hint.{Hint}
 use Rattle.job.specs.declared.FixedFields.{FixedFields}
 use Rattle.job.specs.declared.VirtRegFields.{VirtRegFields}
@@ -81,14 +82,9 @@ pub record Ends (ends : List ℕ) (before : List Entry) : Type 0 where
   pub size : length ends ≡ 64
   pub last : (u : ℕ) → getD ends u 0 ≡ lastEnd u before
 
-same-all : (z n i : ℕ) → getD (replicate n z) i z ≡ z
-same-all z zero i = refl
-same-all z (suc n) zero = refl
-same-all z (suc n) (suc i) = same-all z n i
-
 pub ends-none : Ends (replicate 64 0) []
 unfolding lastEnd foldl
-ends-none = record { size = refl; last = λ u. same-all 0 64 u }
+ends-none = record { size = refl; last = λ u. replicate-default 64 u 0 }
 
 pub ends-more : {ends ends′ : List ℕ} {before : List Entry} (e : Entry) → Ends ends before → e .unit < 64 → ends′ ≡ set ends (e .unit) (e .to) → Ends ends′ (before ++ (e ∷ []))
 unfolding lastEnd

@@ -17,6 +17,7 @@ use Rattle.lent.proofs.Laws.{any-default}
 use Rattle.reg_matrix.specs.Lists.{count}
 use Rattle.reg_matrix.proofs.Places.{count-length, from-zero}
 use Rattle.job.specs.Model.{Plain}
+use Rattle.job.proofs.WeightBits.{nan-bits}
 use Rattle.allocator.specs.declared.Assignment.{Assignment}
 use Rattle.allocator.specs.declared.Assignment.the-variants.{Assigned, Unassigned, Dead}
 use Rattle.records.specs.Fields.{regIn, recordWeight, kindOf}
@@ -31,12 +32,6 @@ unfolding isNan ne eq
 is-number nan e = absurd (subst (λ (t : Bool). T (not t)) (sym e) tt)
 is-number (inf n) e = tt
 is-number (fin n m x) e = tt
-
-nan-bits : (b : ℕ) → b < 2147483648 → nanBits binary32 b ≡ ltb 0x7F80_0000 b
-nan-bits b h = nanBits-above binary32 b ∙ ap (ltb 0x7F80_0000) (mod-eq-of-lt h)
-
-pub not-nan : (b : ℕ) → b ≤ 0x7F80_0000 → nanBits binary32 b ≡ false
-not-nan b h = nan-bits b (omega arith) ∙ le-ltb 0x7F80_0000 b h
 
 -- the sign is the highest bit
 below-sign : (w : Float) → Plain w → T (fits binary32 w) → toBits binary32 w < 2147483648
@@ -100,7 +95,16 @@ word-told a w b r k ew eb hb er hr ek = (rw (← ew, ← eb .0, ← er, ← ek),
     back : PlainRecord a → recordIn (b * 65536 + r * 256 + k) ≡ a
     back p = let q = parts (b * 65536 + r * 256 + k) refl in rw (q .0, q .1, q .2, eb .1 (rw ew p), ek, er, ew) (record-back a)
 
+-- the word of a record that nothing happened to
+pub first-word : recordWord (Unassigned false) ≡ 0
+unfolding ne eq toBits ofBits
+first-word = refl
+
 -- ---- all records, one after another
+
+pub record-in : (ws : List ℕ) (v : ℕ) → v < 512 → getD (recordsIn ws) v Dead ≡ recordIn (getD ws v 0)
+unfolding recordsIn
+record-in ws v h = from-zero (λ v. recordIn (getD ws v 0)) Dead 512 v h
 
 -- the words of the records before i are stored: those from i on are the rest of the whole
 pub record Storing (rs : List Assignment) (ws₀ ws : List ℕ) (i : ℕ) : Type 0 where

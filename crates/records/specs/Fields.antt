@@ -1,8 +1,10 @@
 -- What a record says, whichever of its three cases it is (01, "Where the Rust's forms give way": `Assignment`). Assumes nothing.
 use Prim.Native.Nat.{ℕ}
+use mathlib.Core.List.{List}
 use mathlib.Core.Bool.{Bool, true, false, cond}
 use lib.Dec.{eqb}
 use lib.Ieee.{Float}
+use lib.ListN.{replicate}
 use Rattle.job.specs.Model.{zeroWeight}
 use Rattle.allocator.specs.declared.Assignment.{Assignment}
 use Rattle.allocator.specs.declared.Assignment.the-variants.{Assigned, Unassigned, Dead}
@@ -46,3 +48,9 @@ recordBy k r w =
     (cond (eqb k 1) (Unassigned true)
     (cond (eqb k 4) (Assigned false r w)
     (cond (eqb k 5) (Assigned true r w) Dead)))
+
+-- ---- all of them
+
+-- 01, "Where the Rust's forms give way": "The 512 records start out unassigned"
+abbrev pub firstRecords : List Assignment
+firstRecords = replicate 512 (Unassigned false)

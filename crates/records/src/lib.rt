@@ -1,4 +1,17 @@
 // The records: what one says, and all 512 in lent numbers, by a word each or in three slices.
+ghost use mathlib.Core.Path.{_≡_};
+ghost use Rattle.records.specs.Fields.{firstRecords};
+use allocator::Assignment;
+
 pub mod assignment;
 pub mod slices;
 pub mod words;
+
+// The initial standing of all virtual registers: unassigned, with the flag off.
+pub fn first_records() -> [Assignment; 512]
+    ensures { λ r. ⌜ r ≡ firstRecords ⌝ }
+{
+    [Assignment::Unassigned {
+        evicted_for_preference: false,
+    }; 512]
+}

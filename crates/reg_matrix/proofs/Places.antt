@@ -1,5 +1,5 @@
 -- Lists by their places and in parts: padded lists, counted numbers, filtered and joined lists. Assumes nothing.
-use Prim.Native.Nat.{ℕ, zero, suc, _+_, _-_, _≤_, _<_}
+use Prim.Native.Nat.{ℕ, zero, suc, _+_, _-_, _≤_, _<_, min}
 use native.Mathlib.Omega.{arith}
 use native.Mathlib.Nat.{zero-add, add-zero, suc-add, add-suc}
 use native.Mathlib.Numerals.{add-one}
@@ -7,9 +7,9 @@ use native.Mathlib.Decide.{decLt}
 use mathlib.Core.Path.{_≡_, refl, sym, ap, ap₂, _∙_}
 use mathlib.Core.List.{List, [], _∷_, _++_, map, append-assoc, List·Memᴰ·head, List·Memᴰ·tail}
 use mathlib.Core.Bool.{Bool, true, false, _||_}
-use lib.ListN.{length, getD, replicate, length-append, length-replicate, List·getD-append, List·getD-eq-default}
-use lib.Seq.{getD-append-add}
-use Rattle.reg_matrix.specs.Lists.{keep, filter, any, concatMap, count, padded, putBefore, insertBy}
+use lib.ListN.{length, getD, take, drop, replicate, drop-of-length-le, length-append, length-replicate, List·getD-append, List·getD-eq-default}
+use lib.Seq.{getD-append-add, drop-cons, take-all}
+use Rattle.reg_matrix.specs.Lists.{keep, filter, any, foldl, concatMap, count, padded, putBefore, insertBy}
 use Rattle.reg_matrix.proofs.Members.{_∈_}
 
 module _ {A : Type 0} where
@@ -73,6 +73,25 @@ module _ {A : Type 0} where
       go true e = ap (λ (l : List A). x ∷ l) e
       go false e = e
 
+  -- ---- no more than there are
+
+  pub take-least : (n : ℕ) (xs : List A) → take (min n (length xs)) xs ≡ take n xs
+  take-least n xs = elim (decLt n (length xs)) as (λ _. take (min n (length xs)) xs ≡ take n xs) [
+    | yes h ↦ let e : min n (length xs) ≡ n = omega arith in rw e
+    | no h ↦ let e : min n (length xs) ≡ length xs = omega arith in rw e (take-all (length xs) xs (omega arith) ∙ sym (take-all n xs (omega arith)))
+  ]
+
+-- ---- a fold over a list's places
+
+module _ {A B : Type 0} (f : B → A → B) (xs : List A) (i : ℕ) where
+  pub fold-more : (b b′ : B) (d : A) → i < length xs → b′ ≡ f b (getD xs i d) → foldl f b′ (drop (i + 1) xs) ≡ foldl f b (drop i xs)
+  unfolding foldl
+  fold-more b b′ d h q = rw (q, drop-cons xs i d h, add-one i)
+
+  pub fold-end : (b : B) → length xs ≤ i → foldl f b (drop i xs) ≡ b
+  unfolding foldl
+  fold-end b h = rw (drop-of-length-le xs h)
+
 module _ {A B : Type 0} where
   pub concat-append : (f : A → List B) (xs ys : List A) → concatMap f (xs ++ ys) ≡ concatMap f xs ++ concatMap f ys
   unfolding concatMap
@@ -106,6 +125,14 @@ module _ (p : ℕ → Bool) (n i : ℕ) where
   pub any-end : n ≤ i → any p (count i (n - i)) ≡ false
   unfolding any
   any-end h = rw (count-end n i h)
+
+-- a test by number is one of what has the number
+pub any-at : {A : Type 0} (d : A) (p : A → Bool) (q : ℕ → Bool) (xs : List A) (i : ℕ) → ((k : ℕ) → k < length xs → q (i + k) ≡ p (getD xs k d))
+    → any q (count i (length xs)) ≡ any p xs
+unfolding any count
+any-at d p q [] i h = refl
+any-at d p q (x ∷ xs) i h =
+    ap₂ _||_ (ap q (omega arith) ∙ h 0 (omega arith)) (any-at d p q xs (suc i) (λ k l. ap q (omega arith) ∙ h (suc k) (omega arith)))
 
 pub count-length : (v n : ℕ) → length (count v n) ≡ n
 unfolding count

@@ -1,6 +1,7 @@
 -- Tests as facts: what "and", "or" and the tests of numbers say when they pass. Assumes nothing.
-use Prim.Native.Nat.{ℕ, _<_}
+use Prim.Native.Nat.{ℕ, _≤_, _<_}
 use native.Mathlib.Omega.{arith}
+use native.Mathlib.Decide.{decLt}
 use mathlib.Core.Path.{_≡_, refl, subst}
 use mathlib.Core.Logic.{_⊎_, inl, inr}
 use mathlib.Core.Option.{Option, none, some}
@@ -33,6 +34,11 @@ pub passes-or-not : (b : Bool) → T b ⊎ T (not b)
 passes-or-not true = inl tt
 passes-or-not false = inr tt
 
+-- one that cannot pass
+pub never : (b : Bool) → (T b → ⊥) → b ≡ false
+never true h = absurd (h tt)
+never false h = refl
+
 -- two tests that pass together are one
 pub same-test : (a b : Bool) → (T a → T b) → (T b → T a) → a ≡ b
 same-test true true f g = refl
@@ -46,6 +52,9 @@ not-some (some x) t = absurd t
 
 pub eqb-in : {a b : ℕ} → a ≡ b → T (eqb a b)
 eqb-in {a} q = subst (λ (n : ℕ). T (eqb a n)) q (eqb-refl a)
+
+pub lt-or-le : (a b : ℕ) → (a < b) ⊎ (b ≤ a)
+lt-or-le a b = elim (decLt a b) as (λ _. (a < b) ⊎ (b ≤ a)) [ yes h ↦ inl h | no h ↦ inr (omega arith) ]
 
 pub less-equal-greater : (a b : ℕ) → (a < b) ⊎ ((a ≡ b) ⊎ (b < a))
 less-equal-greater a b = go (passes-or-not (ltb a b)) (passes-or-not (ltb b a))

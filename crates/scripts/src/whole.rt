@@ -7,10 +7,10 @@ use crate::input::skip;
 use crate::making::make_calls;
 use crate::making::print_bad;
 use crate::output::print;
-use calls::loads::first_records;
 use calls::loads::load;
 use lent::part8;
 use loader::load::JobLoaded;
+use records::first_records;
 use transcript::answers;
 
 // Reads a job of `length` bytes: the first 32,769 are kept, one more than a job may have, and the others are read and forgotten. Answers whether

@@ -39,7 +39,8 @@ use Rattle.stage.proofs.QueueLaws.{tournament-length}
 use Rattle.context.specs.Standing.{JobStands, Stands}
 use Rattle.run_loop.specs.Running.{lentState, endingNumber}
 use Rattle.calls.specs.Calling.{sizesOf, StateStands, refusalNumber, RunCalled}
-use Rattle.calls.specs.StageLoading.{laterState, laterJob, StageLoadParts, StageLoadDone, firstRecords}
+use Rattle.calls.specs.StageLoading.{laterState, laterJob, StageLoadParts, StageLoadDone}
+use Rattle.records.specs.Fields.{firstRecords}
 use Rattle.calls.proofs.StageLoads.{append-short, behindState, laid-state, laid-job, same-header, records-first}
 use Rattle.listing.specs.declared.Listing.{Listing}
 use Rattle.lines.specs.LineTexts.{lent}

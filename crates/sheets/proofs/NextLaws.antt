@@ -17,24 +17,14 @@ use Rattle.listing.specs.declared.Step.{Step}
 use Rattle.listing.specs.declared.Step.the-variants.{Line, End as NoMore, Refused as NotListed}
 use Rattle.lines.specs.LineTexts.{Lent}
 use Rattle.listing.specs.Walk.{lineLimit, Found, noMore, aLine, found, stepOf, AnsweredIfLong, numberAt, recordAt, linesFrom}
-use Rattle.listing.proofs.LineLaws.{Room, found-room, Told, next-told}
+use Rattle.listing.proofs.LineLaws.{number-small, Room, found-room, Told, next-told}
 use Rattle.records.specs.Words.{recordIn, recordsIn}
+use Rattle.records.proofs.WordLaws.{record-in}
 use Rattle.sheets.specs.Printing.{LeftToPrint, NextLine}
 
 -- the record that a position asks about is that of its number's word
-number-small : (p : Place) → numberAt p < 512
-number-small Head = omega arith
-number-small (VirtReg v) = go (ltb v 512) (λ e. ltb-true v 512 e)
-  where
-    go : (b : Bool) → (b ≡ true → v < 512) → cond b v 0 < 512
-    go true h = h refl
-    go false h = omega arith
-number-small (Entry i) = omega arith
-number-small End = omega arith
-
 record-asked : (words : List ℕ) (p : Place) → recordIn (getD words (numberAt p) 0) ≡ recordAt (recordsIn words) p
-unfolding recordsIn
-record-asked words p = sym (from-zero (λ v. recordIn (getD words v 0)) Dead 512 (numberAt p) (number-small p))
+record-asked words p = sym (record-in words (numberAt p) (number-small p))
 
 module _ (c : Listing) (l : Lent) (words s t : List ℕ) where
   -- the length of a line is within the lent line

@@ -23,7 +23,8 @@ use Rattle.allocator.specs.Layout.{StateBuffers, stageLimits, queueWords, lastW
 use Rattle.allocator.specs.Run.{Ran, run}
 use Rattle.allocator.specs.Sheet.{sheetOf, printed}
 use Rattle.calls.specs.Calling.{sizesOf, RunCalled}
-use Rattle.calls.specs.StageLoading.{laterJob, firstRecords}
+use Rattle.calls.specs.StageLoading.{laterJob}
+use Rattle.records.specs.Fields.{firstRecords}
 use Rattle.listing.specs.declared.Listing.{Listing}
 use Rattle.listing.specs.declared.Place.the-variants.{Head}
 use Rattle.listing.specs.declared.Step.{Step}

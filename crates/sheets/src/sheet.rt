@@ -5,12 +5,12 @@ ghost use Rattle.run_loop.specs.Running.{lentState};
 ghost use Rattle.lines.specs.LineTexts.{lent};
 ghost use Rattle.sheets.specs.Printing.{endingOf, RunStored, NextLine};
 use allocator::Ending;
-use calls::loads::first_records;
 use calls::runs::run;
 use job::JobHeader;
 use lent::at;
 use listing::Listing;
 use listing::Step;
+use records::first_records;
 use records::words::record_of;
 use records::words::store;
 

@@ -11,33 +11,23 @@ use lib.Dec.{ltb}
 use lib.ListN.{length, take, set, getD, replicate, length-append, length-map, length-take}
 use lib.Seq.{take-suc, take-all, take-append-seam, set-at, append-snoc, length-take-le}
 use borrow.Author.Tests.{ltb-true, ltb-false}
+use Rattle.reg_matrix.specs.Lists.{padded}
 use Rattle.reg_matrix.specs.declared.ValueSegment.{ValueSegment}
 use Rattle.lent.specs.Parts.{part}
 use Rattle.lent.proofs.Laws.{inside}
+use Rattle.reg_matrix.proofs.Places.{take-least}
 use Rattle.thin.specs.declared.Fields.{Fields}
-use Rattle.thin.specs.Apart.{maxSegments, padded, fieldsOf, takenApart, fromsIn, tosIn, valuesIn, fromsOf, tosOf, valuesOf}
-
--- ---- as many as there are, at most
-
-module _ {A : Type 0} (l : List A) where
-  pub take-least : (n : ℕ) → take (min n (length l)) l ≡ take n l
-  take-least n = go (ltb n (length l)) refl
-    where
-      go : (t : Bool) → ltb n (length l) ≡ t → take (min n (length l)) l ≡ take n l
-      go true e = let h : n ≤ length l = (let z : n < length l = ltb-true _ _ e in omega arith) in ap (λ (k : ℕ). take k l) (min-eq-left h)
-      go false e =
-          let h : length l ≤ n = ltb-false _ _ e in
-          ap (λ (k : ℕ). take k l) (min-eq-right h) ∙ take-all (length l) l (omega arith) ∙ sym (take-all n l h)
+use Rattle.thin.specs.Apart.{maxSegments, fieldsOf, takenApart, fromsIn, tosIn, valuesIn, fromsOf, tosOf, valuesOf}
 
 -- ---- padded lists
 
 -- what was padded is the first part
-padded-part : (xs : List ℕ) → length xs ≤ maxSegments → part 0 (length xs) (padded xs) ≡ xs
+padded-part : (xs : List ℕ) → length xs ≤ maxSegments → part 0 (length xs) (padded maxSegments 0 xs) ≡ xs
 unfolding padded
 padded-part xs h =
     let all : length xs - 0 ≡ length xs = omega arith in
-    inside 0 (length xs) (padded xs) (omega arith) (simp length-append (omega arith))
-    ∙ ap (λ (k : ℕ). take k (padded xs)) all ∙ take-append-seam xs (replicate (maxSegments - length xs) 0)
+    inside 0 (length xs) (padded maxSegments 0 xs) (omega arith) (simp length-append (omega arith))
+    ∙ ap (λ (k : ℕ). take k (padded maxSegments 0 xs)) all ∙ take-append-seam xs (replicate (maxSegments - length xs) 0)
 
 abbrev pub noSegment : ValueSegment
 noSegment = record { from = 0; to = 0; value = 0 }
@@ -53,7 +43,7 @@ module _ (g : ValueSegment → ℕ) (l : List ValueSegment) (i : ℕ) (inside : 
   after : map g (take (i + 1) l) ≡ before ++ (g (getD l i noSegment) ∷ [])
   after = rw (add-one, take-suc l i noSegment inside, map-append g (take i l) (getD l i noSegment ∷ []))
 
-  pub stored : set (padded before) i (g (getD l i noSegment)) ≡ padded (map g (take (i + 1) l))
+  pub stored : set (padded maxSegments 0 before) i (g (getD l i noSegment)) ≡ padded maxSegments 0 (map g (take (i + 1) l))
   unfolding padded
   stored =
       let left : maxSegments - length before ≡ suc (maxSegments - (i + 1)) = omega (arith, before-long) in
@@ -67,10 +57,10 @@ module _ (g : ValueSegment → ℕ) (l : List ValueSegment) (i : ℕ) (inside : 
 -- all of the first n
 module _ (l : List ValueSegment) (count n : ℕ) (room : length l ≡ maxSegments) (least : n ≡ min count maxSegments) where
   pub all-taken : take n l ≡ take count l
-  all-taken = ap (λ (k : ℕ). take k l) (least ∙ ap (min count) (sym room)) ∙ take-least l count
+  all-taken = ap (λ (k : ℕ). take k l) (least ∙ ap (min count) (sym room)) ∙ take-least count l
 
-  pub all-stored : (long : Bool) {fs ts vs : List ℕ} → fs ≡ padded (fromsOf (take n l)) → ts ≡ padded (tosOf (take n l))
-      → vs ≡ padded (valuesOf (take n l)) → record { count = n; long = long; froms = fs; tos = ts; values = vs } ≡ fieldsOf long (take count l)
+  pub all-stored : (long : Bool) {fs ts vs : List ℕ} → fs ≡ padded maxSegments 0 (fromsOf (take n l)) → ts ≡ padded maxSegments 0 (tosOf (take n l))
+      → vs ≡ padded maxSegments 0 (valuesOf (take n l)) → record { count = n; long = long; froms = fs; tos = ts; values = vs } ≡ fieldsOf long (take count l)
   unfolding fieldsOf
   all-stored long ef et ev =
       let counted : n ≡ length (take n l) = sym (length-take-le n l (omega (arith, min-le-right count maxSegments))) in
@@ -82,7 +72,7 @@ pub gathered : (l ys : List ValueSegment) (m : ℕ) → length l ≡ maxSegments
 unfolding takenApart
 gathered l ys m room least e p =
     p ∙ ap (fieldsOf (ltb maxSegments (length ys)))
-    (sym (all-taken l (length ys) m room least) ∙ e ∙ ap (λ (k : ℕ). take k ys) (least ∙ min-comm (length ys) maxSegments) ∙ take-least ys maxSegments)
+    (sym (all-taken l (length ys) m room least) ∙ e ∙ ap (λ (k : ℕ). take k ys) (least ∙ min-comm (length ys) maxSegments) ∙ take-least maxSegments ys)
 
 -- ---- all that is had of the segments
 
@@ -90,10 +80,10 @@ module _ (ss : List ValueSegment) where
   seen : length (take maxSegments ss) ≤ maxSegments
   seen = omega (arith, length-take maxSegments ss)
 
-  parted : (g : ValueSegment → ℕ) → part 0 (length (take maxSegments ss)) (padded (map g (take maxSegments ss))) ≡ map g (take maxSegments ss)
+  parted : (g : ValueSegment → ℕ) → part 0 (length (take maxSegments ss)) (padded maxSegments 0 (map g (take maxSegments ss))) ≡ map g (take maxSegments ss)
   parted g =
       let long : length (map g (take maxSegments ss)) ≡ length (take maxSegments ss) = length-map (take maxSegments ss) g in
-      ap (λ (k : ℕ). part 0 k (padded (map g (take maxSegments ss)))) (sym long) ∙ padded-part (map g (take maxSegments ss)) (omega (arith, seen))
+      ap (λ (k : ℕ). part 0 k (padded maxSegments 0 (map g (take maxSegments ss)))) (sym long) ∙ padded-part (map g (take maxSegments ss)) (omega (arith, seen))
 
   pub froms-apart : fromsIn (takenApart ss) ≡ fromsOf (take maxSegments ss)
   unfolding takenApart fieldsOf

@@ -1,9 +1,10 @@
 -- Segments taken apart into three lists of numbers: what a slice of segment structs holds, and what the code keeps of it. Assumes nothing.
-use Prim.Native.Nat.{ℕ, _-_}
-use mathlib.Core.List.{List, _++_, map}
+use Prim.Native.Nat.{ℕ}
+use mathlib.Core.List.{List, map}
 use mathlib.Core.Bool.{Bool}
 use lib.Dec.{ltb}
-use lib.ListN.{length, take, replicate}
+use lib.ListN.{length, take}
+use Rattle.reg_matrix.specs.Lists.{padded}
 use Rattle.reg_matrix.specs.declared.ValueSegment.{ValueSegment}
 use Rattle.lent.specs.Parts.{part}
 use Rattle.thin.specs.declared.Fields.{Fields}
@@ -36,14 +37,10 @@ valuesIn f = part 0 (f .count) (f .values)
 
 -- ---- taking segments apart
 
--- with zeros in the places behind
-unfoldable pub padded : List ℕ → List ℕ
-padded xs = xs ++ replicate (maxSegments - length xs) 0
-
--- segments that have room, and whether there were more
+-- segments that have room, with zeros in the places behind, and whether there were more
 unfoldable pub fieldsOf : Bool → List ValueSegment → Fields
 fieldsOf long ss =
-    record { count = length ss; long = long; froms = padded (fromsOf ss); tos = padded (tosOf ss); values = padded (valuesOf ss) }
+    record { count = length ss; long = long; froms = padded maxSegments 0 (fromsOf ss); tos = padded maxSegments 0 (tosOf ss); values = padded maxSegments 0 (valuesOf ss) }
 
 unfoldable pub takenApart : List ValueSegment → Fields
 takenApart ss = fieldsOf (ltb maxSegments (length ss)) (take maxSegments ss)

@@ -5,7 +5,7 @@ use mathlib.Core.List.{[]}
 use lib.ListN.{length, drop}
 use Rattle.entries.specs.Moves.{words}
 use Rattle.entries.specs.Placing.{evictingUnit}
-use Rattle.placing.proofs.PlacingWalks.{fold-more, fold-end}
+use Rattle.reg_matrix.proofs.Places.{fold-more, fold-end}
 use Rattle.placing.proofs.assign.evict_unit.Statement.{statement}
 use Rattle.placing.proofs.assign.evict_unit.Tie as tie
 
@@ -32,7 +32,7 @@ loop-less c = search needs
 
 loop-again : tie.Need-loop-again Inv-loop μ-loop
 unfolding evictingUnit
-loop-again c = (search needs, search needs, fold-more _ _ _ _ _ (c .before .before .before .before .before .before .before .before .loop-test .taken) (rw (← c .before .before .before .before .before .before .before .at32 .ensures) (c .before .before .before .before .evict-segment .ensures)) ∙ c .before .before .before .before .before .before .before .before .before .loop .inv .2)
+loop-again c = (search needs, search needs, fold-more _ _ _ _ _ 0 (c .before .before .before .before .before .before .before .before .loop-test .taken) (rw (← c .before .before .before .before .before .before .before .at32 .ensures) (c .before .before .before .before .evict-segment .ensures)) ∙ c .before .before .before .before .before .before .before .before .before .loop .inv .2)
 
 same-length : tie.Need-same-length Inv-loop μ-loop
 same-length c = search needs
@@ -42,7 +42,7 @@ same-length-2 c = search needs
 
 returns : tie.Need-returns Inv-loop μ-loop
 unfolding evictingUnit
-returns c = sym (fold-end _ _ _ _ (words [] []) (c .loop-test .left)) ∙ c .before .loop .inv .2
+returns c = sym (fold-end _ _ _ _ (c .loop-test .left)) ∙ c .before .loop .inv .2
 
 pub evict-unit-spec : {M : Type 1} → statement M
 evict-unit-spec =

@@ -1,5 +1,5 @@
 use borrow.Author.Needs.{needs}
-use Rattle.records.proofs.WordLaws.{not-nan}
+use Rattle.job.proofs.WeightBits.{not-nan}
 use borrow.Author.Tests.{le-leb, lt-leb}
 use Rattle.records.proofs.words.weight_in.Statement.{statement}
 use Rattle.records.proofs.words.weight_in.Tie as tie

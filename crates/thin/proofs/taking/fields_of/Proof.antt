@@ -5,14 +5,15 @@ use mathlib.Core.Path.{_≡_, refl, ap, _∙_}
 use mathlib.Core.List.{List}
 use lib.Dec.{ltb}
 use lib.ListN.{length, take, getD, set}
-use Rattle.thin.specs.Apart.{padded, fromsOf, tosOf, valuesOf}
+use Rattle.reg_matrix.specs.Lists.{padded}
+use Rattle.thin.specs.Apart.{maxSegments, fromsOf, tosOf, valuesOf}
 use Rattle.thin.proofs.ApartLaws.{noSegment, stored, all-stored}
 use Rattle.thin.proofs.taking.fields_of.Statement.{statement}
 use Rattle.thin.proofs.taking.fields_of.Tie as tie
 
 abbrev Inv-loop : tie.InvT-loop
-Inv-loop count list n froms₀ tos₀ values₀ i₀ froms tos values i = (i ≤ n) × (froms ≡ padded (fromsOf (take i list)))
-    × (tos ≡ padded (tosOf (take i list))) × (values ≡ padded (valuesOf (take i list)))
+Inv-loop count list n froms₀ tos₀ values₀ i₀ froms tos values i = (i ≤ n) × (froms ≡ padded maxSegments 0 (fromsOf (take i list)))
+    × (tos ≡ padded maxSegments 0 (tosOf (take i list))) × (values ≡ padded maxSegments 0 (valuesOf (take i list)))
 
 abbrev μ-loop : tie.MeasureT-loop
 μ-loop count list n froms₀ tos₀ values₀ i₀ froms tos values i = n - i
