@@ -6,14 +6,13 @@ use mathlib.Core.Logic.{⊎-elim}
 use mathlib.Core.List.{List, [], _∷_, map}
 use mathlib.Core.Option.{Option, none, some}
 use mathlib.Core.Bool.{Bool, true, false, not, _&&_, _||_, cond}
-use native.Mathlib.Nat.{mod-eq-of-lt, eq-or-lt-of-le}
-use native.Mathlib.Numerals.{add-one}
-use lib.Dec.{T, ltb, leb, eqb, leb→le, nleb→lt, eqb→eq}
-use lib.Ieee.{Float, nan, inf, fin, prec, top, hid, ones, low, binary32, ofBits, ofFields, odd, isNan, nanBits}
-use lib.Ieee.Bits.{is-true, nanBits-is, nanBits-above}
+use native.Mathlib.Nat.{eq-or-lt-of-le}
+use lib.Dec.{T, leb, eqb, leb→le, nleb→lt, eqb→eq}
+use lib.Ieee.{Float, nan, inf, fin, prec, top, hid, ones, low, binary32, ofBits, ofFields, odd, isNan}
+use lib.Ieee.Bits.{is-true, nanBits-is}
 use lib.ListN.{length, take, getD}
 use lib.Seq.{take-all}
-use borrow.Author.Tests.{lt-ltb, le-ltb, lt-leb, ne-eqb}
+use borrow.Author.Tests.{lt-ltb}
 use Rattle.reg_matrix.specs.Lists.{any, has, count, isNil, isSome}
 use Rattle.reg_matrix.specs.Refusals.{Test, refusal, _if_, shortBuffer}
 use Rattle.reg_matrix.proofs.Places.{any-at}
@@ -24,7 +23,6 @@ use Rattle.job.specs.declared.Hint.{Hint}
 use Rattle.job.specs.Model as model
 use Rattle.job.specs.Model.{Job, noVirtReg, virtReg}
 use Rattle.job.specs.Layout.{JobBuffers, jobBuffers}
-use Rattle.job.specs.Load.{badHintBits}
 use Rattle.job.proofs.Premises.{Finite, IsNumber}
 use Rattle.job.proofs.Weights.{finite-hint, neither}
 use Rattle.job.proofs.WeightBits.{nan-bits, hint-good}

@@ -1,6 +1,6 @@
 // The tests of direct calls in their order (document 01, "Order"): 15, 8, 9, 13, 14. They read, and change nothing.
 ghost use mathlib.Core.Path.{_≡_};
-ghost use mathlib.Core.Bool.{not, _||_};
+ghost use mathlib.Core.Bool.{_||_};
 ghost use mathlib.Core.List.{[], _∷_};
 ghost use lib.Dec.{ltb, leb};
 ghost use Rattle.reg_matrix.specs.Lists.{any, count};

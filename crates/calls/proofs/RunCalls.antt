@@ -1,22 +1,18 @@
 -- A run as a call: refused 15 it changes nothing, and else it is the rules' run. Assumes nothing.
 use Prim.Native.Nat.{ℕ}
 use native.Mathlib.Omega.{arith}
-use mathlib.Core.Path.{_≡_, refl, sym, ap, _∙_, subst}
+use mathlib.Core.Path.{_≡_, refl, sym, _∙_, subst}
 use mathlib.Core.List.{List}
-use mathlib.Core.Option.{Option, none, some}
 use mathlib.Core.Bool.{Bool, true, false}
 use lib.Ieee.{Float}
 use lib.ListN.{drop}
 use Rattle.reg_matrix.specs.Refusals.{refusal, shortBuffer}
-use Rattle.job.specs.Model.{Job}
 use Rattle.job.specs.Layout.{JobBuffers, JobSlices, listsIn}
 use Rattle.allocator.specs.declared.Assignment.{Assignment}
-use Rattle.allocator.specs.State.{State}
 use Rattle.allocator.specs.Layout.{StateBuffers, stageLimits}
-use Rattle.allocator.specs.Run.{run}
-use Rattle.allocator.specs.Calls.{running, refusalOf, unlessRefused, carriedOut, after, orRefused, answerOf}
+use Rattle.allocator.specs.Calls.{refusalOf, carriedOut, after, answerOf}
 use Rattle.run_loop.specs.Running.{lentJob, RunDone}
-use Rattle.calls.specs.Calling.{sizesOf, refusalNumber, Called, RunCalled}
+use Rattle.calls.specs.Calling.{sizesOf, RunCalled}
 
 -- the lists that the code takes from the slices are those of the job
 pub lists-taken :

@@ -12,19 +12,17 @@ use lib.ListN.{length, take, drop, getD, replicate, length-map, length-append, l
 use lib.Seq.{sets, sets-eq, drop-append-seam}
 use borrow.Author.Tests.{lt-ltb, le-ltb}
 use Rattle.lent.specs.Parts.{Begins}
-use Rattle.reg_matrix.specs.Lists.{count, padded, concatMap, _∈_}
+use Rattle.reg_matrix.specs.Lists.{count, concatMap, _∈_}
 use Rattle.reg_matrix.specs.Refusals.{shortBuffer}
-use Rattle.reg_matrix.specs.Layout.{maxEntries, endWords, restWords}
+use Rattle.reg_matrix.specs.Layout.{maxEntries}
 use Rattle.reg_matrix.proofs.Places.{padded-length, replicate-default}
 use Rattle.reg_matrix.specs.declared.ValueSegment.{ValueSegment}
 use Rattle.job.specs.Model.{Job, VirtReg, zeroWeight}
-use Rattle.job.specs.Parser.{refuse}
 use Rattle.job.specs.Load.{Bytes, wholeJob, Loaded, notLoaded, loaded, loadWith}
 use Rattle.job.specs.Layout.{jobBuffers, JobSlices, jobSlices, listsIn, allSegments, loadLimits, startsFrom, headerOf}
 use Rattle.job.specs.declared.JobHeader.{JobHeader}
 use Rattle.job.proofs.Lists.{starts-length}
 use Rattle.job.proofs.Premises.{Premises}
-use Rattle.allocator.specs.declared.Assignment.{Assignment}
 use Rattle.allocator.specs.declared.Assignment.the-variants.{Unassigned}
 use Rattle.allocator.specs.State.{freshState, assignment, recordOf, records}
 use Rattle.allocator.specs.Layout.{StateBuffers, stageLimits, queueWords, lastWord, lastWords}
@@ -39,7 +37,7 @@ use Rattle.stage.proofs.QueueLaws.{fresh-tournament}
 use Rattle.context.specs.Standing.{JobStands, Stands}
 use Rattle.context.proofs.CarryLaws.{begins-take}
 use Rattle.run_loop.specs.Running.{lentState}
-use Rattle.calls.specs.Calling.{sizesOf, StateStands}
+use Rattle.calls.specs.Calling.{sizesOf}
 use Rattle.calls.specs.StageLoading.{laterState, laterJob, StageLoadParts, StageLoadDone}
 use Rattle.records.specs.Fields.{firstRecords}
 use Rattle.calls.specs.Trace.{JustLoaded}

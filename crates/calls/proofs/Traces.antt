@@ -3,39 +3,35 @@
 use Prim.Native.Nat.{ℕ, zero, suc, _+_, _-_, _≤_, _<_}
 use native.Mathlib.Omega.{arith}
 use mathlib.Core.Path.{_≡_, refl, sym, ap, _∙_, subst}
-use mathlib.Core.Logic.{_↔_, _⊎_, inl, inr}
+use mathlib.Core.Logic.{_⊎_, inl, inr}
 use mathlib.Core.List.{List, [], _∷_, _++_, map, append-assoc, List·Memᴰ·head, List·Memᴰ·tail}
-use mathlib.Core.Option.{Option, none, some}
-use mathlib.Core.Bool.{Bool, true, false, cond}
-use lib.Dec.{ltb}
+use mathlib.Core.Bool.{true}
 use lib.ListN.{length, replicate, length-map}
-use borrow.Author.Tests.{lt-ltb, le-ltb}
+use borrow.Author.Tests.{lt-ltb}
 use Rattle.reg_matrix.specs.Lists.{foldl, padded}
 use Rattle.reg_matrix.specs.Table.{Table}
 use Rattle.reg_matrix.specs.Refusals.{refusal, shortBuffer}
-use Rattle.reg_matrix.specs.Layout.{maxEntries, greatest, endWord, restWord, entryOf, endWords, restWords}
+use Rattle.reg_matrix.specs.Layout.{maxEntries, greatest, endWord, restWord, endWords, restWords}
 use Rattle.reg_matrix.specs.Lines.{tableLines}
 use Rattle.reg_matrix.specs.declared.Entry.{Entry}
 use Rattle.reg_matrix.proofs.Members.{_∈_}
 use Rattle.matrix.proofs.Decode.{Small, entry-back}
 use Rattle.placing.proofs.Standing.{word-small}
 use Rattle.job.specs.Model.{Job}
-use Rattle.job.specs.Load.{loaded}
 use Rattle.job.specs.Layout.{JobSlices, listsIn, headerOf}
 use Rattle.job.specs.declared.JobHeader.{JobHeader}
 use Rattle.allocator.specs.declared.Assignment.{Assignment}
 use Rattle.allocator.specs.State.{State, freshState}
 use Rattle.allocator.specs.Layout.{StateBuffers, stageLimits}
-use Rattle.allocator.specs.Calls.{Call, placing, evicting, running, refusalOf, unlessRefused, carriedOut, after, afterAll}
-use Rattle.allocator.specs.Holding.{holds}
+use Rattle.allocator.specs.Calls.{Call, placing, evicting, running, refusalOf, after, afterAll}
 use Rattle.allocator.specs.Reached.{Reached}
-use Rattle.allocator.specs.Demand.{placements, TablesAreHolders}
+use Rattle.allocator.specs.Demand.{TablesAreHolders}
 use Rattle.allocator.proofs.Demand3.{demand3}
 use Rattle.allocator.proofs.Good.{good-reached, reached-fresh, reached-after}
 use Rattle.stage.proofs.Reached.{walkable}
 use Rattle.context.specs.Standing.{JobStands}
-use Rattle.calls.specs.Calling.{sizesOf, StateStands, Called, Unchanged}
-use Rattle.calls.specs.Trace.{readTable, tableIn, lentTo, joined, WholeCall, ShortCall, Trace, JustLoaded, TraceOf, CodeTablesAreHolders, CodeDemand3}
+use Rattle.calls.specs.Calling.{StateStands}
+use Rattle.calls.specs.Trace.{readTable, tableIn, lentTo, joined, WholeCall, ShortCall, Trace, TraceOf, CodeDemand3}
 
 -- ---- the table read back
 

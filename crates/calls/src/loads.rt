@@ -1,5 +1,4 @@
 // Loading a stage: the job, its table, the queue and the last registers.
-ghost use mathlib.Core.Path.{_≡_};
 ghost use Rattle.job.specs.Layout.{slices};
 ghost use Rattle.run_loop.specs.Running.{lentState};
 ghost use Rattle.calls.specs.StageLoading.{StageLoadDone};

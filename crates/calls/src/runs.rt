@@ -1,5 +1,4 @@
 // A run as a call of its own: `Allocator::run` (`allocator/mod.rs`), with a budget.
-ghost use mathlib.Core.Path.{_≡_};
 ghost use Rattle.job.specs.Layout.{slices};
 ghost use Rattle.run_loop.specs.Running.{lentState};
 ghost use Rattle.calls.specs.Calling.{RunCalled};

@@ -2,7 +2,7 @@
 use Prim.Native.Nat.{ℕ, _+_}
 use native.Mathlib.Omega.{arith}
 use mathlib.Core.Path.{_≡_, refl, sym, ap, _∙_, subst}
-use mathlib.Core.List.{List, [], _∷_, _++_}
+use mathlib.Core.List.{List, [], _++_}
 use mathlib.Core.Option.{Option, none, some}
 use mathlib.Core.Bool.{Bool, true, false, not, _&&_, _||_}
 use lib.Dec.{T, ltb}
@@ -15,7 +15,7 @@ use Rattle.allocator.specs.declared.Assignment.the-variants.{Assigned as Holds,
 use Rattle.allocator.specs.declared.CandidateReg.{CandidateReg}
 use Rattle.allocator.specs.declared.Stage.{Stage}
 use Rattle.allocator.specs.declared.Stage.the-variants.{Split}
-use Rattle.allocator.specs.State.{State, heldBy, isLeftOver, flag, isUnassigned, assignment, recordOf, records, give, lose, requeue, leave}
+use Rattle.allocator.specs.State.{State, heldBy, isLeftOver, flag, isUnassigned, assignment, recordOf, records, give, requeue, leave}
 use Rattle.allocator.specs.Layout.{StateBuffers, queueWords, lastWords}
 use Rattle.job.proofs.Premises.{IsNumber}
 use Rattle.reg_matrix.proofs.Tests.{both}

@@ -3,20 +3,19 @@
 use Prim.Native.Nat.{ℕ, _+_, _<_, _≤_}
 use native.Mathlib.Omega.{arith}
 use mathlib.Core.Path.{_≡_, refl, sym, ap, _∙_, subst}
-use mathlib.Core.Logic.{_⊎_, inl, inr}
-use mathlib.Core.List.{List, [], _∷_, _++_, map}
+use mathlib.Core.List.{List, [], _++_, map}
 use mathlib.Core.Option.{Option, none, some}
-use mathlib.Core.Bool.{Bool, true, false, not, _||_}
+use mathlib.Core.Bool.{Bool, true, false, not}
 use lib.Dec.{T, ltb}
 use lib.Ieee.{Float}
-use lib.ListN.{length, getD, set, take, drop, length-map, length-set, List·getD-map}
-use lib.Seq.{take-at, drop-at, ext-getD, set-append-left, getD-set-same, getD-set-other}
+use lib.ListN.{length, getD, set, take, drop, length-map, List·getD-map}
+use lib.Seq.{take-at, drop-at, set-append-left}
 use Rattle.lent.specs.Parts.{Begins}
-use Rattle.reg_matrix.specs.Lists.{count, filter, foldl, keep, padded, isSome}
+use Rattle.reg_matrix.specs.Lists.{count, isSome}
 use Rattle.reg_matrix.specs.Layout.{endWords, restWords, useWords}
 use Rattle.reg_matrix.proofs.Tests.{both, not-some}
 use Rattle.lent.proofs.Laws.{any-default}
-use Rattle.reg_matrix.proofs.Places.{padded-length, padded-read, count-length, count-append, filter-append}
+use Rattle.reg_matrix.proofs.Places.{padded-length, padded-read, count-length}
 use Rattle.entries.specs.Moves.{words}
 use Rattle.entries.specs.Placing.{Assigned, Evicted}
 use Rattle.entries.specs.declared.Moved.{Moved}
@@ -28,28 +27,25 @@ use Rattle.allocator.specs.declared.CandidateReg.{CandidateReg}
 use Rattle.allocator.specs.declared.Assignment.{Assignment}
 use Rattle.allocator.specs.declared.Assignment.the-variants.{Assigned as Holds, Unassigned, Dead}
 use Rattle.allocator.specs.declared.Stage.{Stage}
-use Rattle.allocator.specs.declared.Stage.the-variants.{Evict, Split}
-use Rattle.allocator.specs.State.{State, heldBy, isLeftOver, flag, isUnassigned, checkOf, assignment, recordOf, records, give, lose, loseHeld, evictNumber, requeue, leave}
+use Rattle.allocator.specs.declared.Stage.the-variants.{Evict}
+use Rattle.allocator.specs.State.{State, heldBy, isLeftOver, recordOf, records, give, lose}
 use Rattle.allocator.specs.Order.{candidate}
 use Rattle.allocator.specs.Layout.{StateBuffers, keyWord, queueWords, lastWord, lastWords}
-use Rattle.allocator.specs.Calls.{named}
 use Rattle.allocator.specs.Reached.{Reached}
 use Rattle.allocator.proofs.Weights.{plain-zero}
-use Rattle.allocator.proofs.Holders.{same-or-not}
 use Rattle.allocator.proofs.Rebuilt.{named-known}
-use Rattle.allocator.proofs.Agrees.{Sizes, Candidate}
 use Rattle.allocator.proofs.Good.{Good, Idle, good-reached, holder-good, reached-evict}
 use Rattle.allocator.proofs.Records.{assigned-held, not-assigned, holder-stays, lose-records, give-last}
 use Rattle.queue.specs.QueueWalk.{keyOf, setWord}
 use Rattle.stage.proofs.QueueLaws.{tournament-length, set-tournament, key-is, size-at, has-hints}
 use Rattle.stage.proofs.ReachedMoves.{table-stands, uses-lie, assign-gives, evict-loses, evict-held, evict-nothing, evictMarked, marked-yes, marked-no, marked-end}
-use Rattle.context.specs.Standing.{TableStands, Moves, Stands}
+use Rattle.context.specs.Standing.{Moves}
 use Rattle.records.specs.Slices.{RecordBuffers, recordBuffers, recordAt, setRecord}
 use Rattle.records.proofs.SliceLaws.{free, at-back, set-back}
 use Rattle.stage.proofs.ReachedSearch.{record-read}
 use Rattle.decisions.specs.Deciding.{shareOf, members}
 use Rattle.records.specs.Fields.{flagIn, isHeld, regIn, recordWeight}
-use Rattle.context.specs.Carrying.{EvictReads, TakeReads, TakenBack, EvictedAll, Taken}
+use Rattle.context.specs.Carrying.{EvictReads, TakenBack, EvictedAll, Taken}
 use Rattle.allocator.specs.Dequeue.{evictAll}
 use Rattle.context.proofs.Shares.{froms-share, tos-share}
 

@@ -3,7 +3,7 @@
 use Prim.Native.Nat.{ℕ, _+_, _<_}
 use mathlib.Core.Path.{_≡_}
 use mathlib.Core.List.{List, []}
-use mathlib.Core.Option.{Option, some, none}
+use mathlib.Core.Option.{some, none}
 use mathlib.Core.Bool.{Bool, true, false, _||_}
 use lib.Dec.{T, ltb}
 use lib.ListN.{length, getD}

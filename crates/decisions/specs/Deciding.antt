@@ -1,7 +1,7 @@
 -- A dequeue's decision in the shape of the code, over what is lent. Laws in proofs/ and in context/proofs tie it to Dequeue.antt. Assumes nothing.
 use Prim.Native.Nat.{ℕ, _+_, _-_}
 use mathlib.Core.List.{List, []}
-use mathlib.Core.Bool.{Bool, true, false, not, _&&_, _||_, cond}
+use mathlib.Core.Bool.{Bool, true, false, not, _&&_, cond}
 use lib.Dec.{eqb}
 use lib.Ieee.{Float, lt, eq}
 use lib.ListN.{getD, replicate}

@@ -2,7 +2,6 @@
 ghost use mathlib.Core.Path.{_≡_};
 ghost use mathlib.Core.List.{[], _∷_};
 ghost use lib.ListN.{length};
-ghost use Prim.Native.Nat.{_≤_};
 ghost use Rattle.entries.specs.Moves.{words};
 ghost use Rattle.reg_matrix.specs.Questions.{spareRefusal};
 ghost use Rattle.entries.specs.Placing.{freeAt, range, spareAnswer};

@@ -4,7 +4,7 @@ ghost use mathlib.Core.Bool.{not, _&&_};
 ghost use mathlib.Core.List.{[]};
 ghost use Prim.Native.Nat.{_+_, _-_, _/_, _%_, _≤_, _<_};
 ghost use lib.Dec.{eqb};
-ghost use lib.ListN.{length, drop, set};
+ghost use lib.ListN.{length, drop};
 ghost use Rattle.job.specs.Load.{hint as hintOf, range as rangeOf, segment as segmentOf, hintCount, segmentCount, hints as hintsOf, segments as segmentsOf, spillBits, known, virtRegFields, virtRegAt, virtRegAfter};
 ghost use Rattle.job.specs.Parser.{each, ifBit, little};
 ghost use Rattle.reader.specs.Read.{Num, Outcome, Counted, tableOf};

@@ -1,6 +1,6 @@
 -- The premises of demand 3 and every bound that the stage relies on, as loading tested them (00, demand 3; document 01, "Limits" and refusals
 -- 5 to 12). Assumes nothing.
-use Prim.Native.Nat.{ℕ, _+_, _<_, _≤_, _^_}
+use Prim.Native.Nat.{ℕ, _<_, _≤_, _^_}
 use mathlib.Core.Path.{_≡_}
 use mathlib.Core.List.{List}
 use mathlib.Core.Option.{Option, none, some}

@@ -7,7 +7,7 @@ use mathlib.Core.Option.{Option, none, some}
 use lib.Ieee.{Float}
 use lib.ListN.{length, drop}
 use Rattle.reg_matrix.specs.Lists.{concatMap, padded}
-use Rattle.reg_matrix.specs.Layout.{useWords, maxFixed}
+use Rattle.reg_matrix.specs.Layout.{useWords}
 use Rattle.reg_matrix.specs.Questions.{tableLimits}
 use Rattle.reg_matrix.specs.declared.ValueSegment.{ValueSegment}
 use Rattle.job.specs.declared.Hint.{Hint}

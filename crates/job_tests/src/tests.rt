@@ -1,7 +1,7 @@
 // The tests of a whole job, over its decoded numbers: 10, 11 and 12 (document 01). Places are compared by total reads, so that nothing is asked
 // of the slices.
 ghost use mathlib.Core.Path.{_≡_};
-ghost use mathlib.Core.Bool.{not, _&&_, _||_};
+ghost use mathlib.Core.Bool.{_&&_, _||_};
 ghost use Prim.Native.Nat.{_+_, _-_};
 ghost use lib.Dec.{eqb, ltb};
 ghost use lib.ListN.{getD};

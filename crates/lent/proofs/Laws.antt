@@ -5,11 +5,10 @@ use native.Mathlib.Omega.{arith}
 use native.Mathlib.Numerals.{add-one}
 use native.Mathlib.Nat.{add-zero}
 use mathlib.Core.Path.{_≡_, refl, ap, _∙_}
-use mathlib.Core.List.{List, [], _∷_, _++_, append-assoc}
+use mathlib.Core.List.{List, [], _∷_, _++_}
 use lib.ListN.{length, take, drop, getD, set, replicate, drop-of-length-le, length-drop}
-use lib.Seq.{sets, take-all, set-comm, drop-set-add, sets-eq, drop-append-seam, drop-append-le, drop-append-add, length-sets}
+use lib.Seq.{sets, take-all, set-comm, drop-set-add, sets-eq}
 use borrow.Author.Tests.{lt-leb, le-leb}
-use mathlib.Core.Bool.{false, _&&_}
 use Rattle.lent.specs.Parts.{part, Begins, filled}
 
 pub any-default : {A : Type 0} (l : List A) (i : ℕ) (d e : A) → i < length l → getD l i d ≡ getD l i e

@@ -12,7 +12,7 @@ use lib.ListN.{length, getD, take, drop, length-append}
 use lib.Seq.{sets, sets-eq, take-append-seam}
 use borrow.Author.Tests.{lt-ltb, le-ltb, ltb-true}
 use Rattle.reg_matrix.specs.Lists.{ascii, concatMap, filter, count, keep}
-use Rattle.reg_matrix.specs.Lines.{number, sp, line, refusedLine, indexText, reservationText, entryLine}
+use Rattle.reg_matrix.specs.Lines.{number, sp, refusedLine, indexText, reservationText, entryLine}
 use Rattle.reg_matrix.specs.Layout.{maxEntries, entryOf}
 use Rattle.reg_matrix.specs.declared.Entry.{Entry}
 use Rattle.reg_matrix.specs.declared.FixedIndex.{FixedIndex}

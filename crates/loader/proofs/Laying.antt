@@ -27,7 +27,7 @@ use Rattle.placing.proofs.Loaded.{In}
 use Rattle.whole_fields.specs.declared.JobRead.{JobRead}
 use Rattle.whole_fields.specs.declared.JobRead.the-variants.{Is, Refused}
 use Rattle.reader.specs.Read.{allMembers, hintsOfAll, segmentsOfAll}
-use Rattle.fields.specs.Virt.{in32, in16, in8, inWeights, hintEnds, segmentEnds, VirtsAt}
+use Rattle.fields.specs.Virt.{in32, in16, in8, inWeights, hintEnds, segmentEnds}
 use Rattle.whole_fields.specs.Whole.{JobAt, JobOut}
 use Rattle.loader.specs.Loading.{Lent, lent, sizesOf, cleared, Stores, later}
 use Rattle.loader.proofs.Regions.{region, laid-out}

@@ -16,7 +16,6 @@ use Rattle.reg_matrix.specs.declared.FixedIndex.the-variants.{At, NoIndex}
 use Rattle.reg_matrix.specs.declared.Reservation.{Reservation}
 use Rattle.reg_matrix.specs.declared.Reservation.the-variants.{Held, FixedUse, FixedDef}
 use Rattle.reg_matrix.proofs.Members.{_∈_}
-use Rattle.reg_matrix.proofs.Sorted.{Before, Sorted, before→, below-out}
 
 -- ---- numbers that fit their fields
 

@@ -1,7 +1,7 @@
 // An entry as two 64-bit numbers, and a fixed use as one (specs/Layout.antt).
 ghost use mathlib.Core.Path.{_≡_};
 ghost use Prim.Native.Nat.{_+_, _*_, _^_, _<_};
-ghost use Rattle.reg_matrix.specs.Layout.{endWord, restWord, reservationWord, entryOf, reservationOf, useOf};
+ghost use Rattle.reg_matrix.specs.Layout.{reservationWord, entryOf, reservationOf, useOf};
 use reg_matrix::Entry;
 use reg_matrix::FixedIndex;
 use reg_matrix::Reservation;

@@ -1,39 +1,27 @@
 -- Calls whose records stand in lent words: what a call over the records that are read answers and leaves is what the definitions say of the words.
 -- Assumes nothing.
-use Prim.Native.Nat.{ℕ, zero, suc, _+_, _≤_, _<_}
+use Prim.Native.Nat.{ℕ, _+_, _≤_}
 use native.Mathlib.Omega.{arith}
 use mathlib.Core.Path.{_≡_, refl, sym, ap, _∙_, subst}
-use mathlib.Core.List.{List, [], _∷_, _++_, map}
-use mathlib.Core.Option.{Option, none, some}
+use mathlib.Core.List.{List, map}
 use mathlib.Core.Bool.{Bool, true, false, _||_}
-use mathlib.Core.Logic.{_⊎_, inl, inr}
-use lib.Dec.{T, ltb}
-use lib.ListN.{length, drop, getD, set, length-map}
+use lib.Dec.{T}
+use lib.ListN.{length, drop, length-map}
 use lib.Seq.{sets, sets-eq, drop-at}
-use borrow.Author.Tests.{lt-ltb, le-ltb, ltb-true, ltb-false}
 use Rattle.reg_matrix.specs.Refusals.{shortBuffer}
-use Rattle.reg_matrix.proofs.Places.{from-zero, count-length}
-use Rattle.reg_matrix.specs.Lists.{count}
 use Rattle.job.specs.Model.{Job}
-use Rattle.job.specs.Layout.{JobSlices, headerOf}
-use Rattle.job.specs.declared.JobHeader.{JobHeader}
+use Rattle.job.specs.Layout.{JobSlices}
 use Rattle.allocator.specs.declared.Assignment.{Assignment}
-use Rattle.allocator.specs.declared.Assignment.the-variants.{Assigned, Unassigned, Dead}
-use Rattle.allocator.specs.declared.CandidateReg.{CandidateReg}
-use Rattle.allocator.specs.State.{State, assignment, isLeftOver, flag, heldBy, recordOf, records}
+use Rattle.allocator.specs.State.{State}
 use Rattle.allocator.specs.Layout.{StateBuffers, stageLimits}
-use Rattle.allocator.specs.Calls.{Call, running, answerOf, after}
-use Rattle.allocator.specs.Reached.{Reached}
-use Rattle.allocator.specs.Run.{run}
-use Rattle.allocator.proofs.Good.{good-reached, reached-after}
-use Rattle.context.specs.Standing.{JobStands}
-use Rattle.run_loop.specs.Running.{endingNumber}
+use Rattle.allocator.specs.Calls.{Call, after}
+use Rattle.allocator.proofs.Good.{reached-after}
 use Rattle.calls.specs.Calling as calling
-use Rattle.calls.specs.Calling.{sizesOf, refusalNumber, StateStands}
+use Rattle.calls.specs.Calling.{sizesOf, StateStands}
 use Rattle.records.specs.Words.{recordWord, recordsIn, AllPlain}
 use Rattle.records.proofs.PlainRecords.{plain-records}
 use Rattle.words.specs.Words.{headerIn}
-use Rattle.pezhkadu.specs.Calling.{Called, RunCalled, runShort}
+use Rattle.pezhkadu.specs.Calling.{Called}
 
 pub not-both : false ≡ true → ⊥
 not-both q = subst (λ (b : Bool). T (elim b as (λ x. Bool) [ true ↦ false | false ↦ true ])) q tt

@@ -3,9 +3,8 @@
 use Prim.Native.Nat.{ℕ, _≤_, _<_}
 use native.Mathlib.Omega.{arith}
 use mathlib.Core.Path.{_≡_, refl, sym, ap, _∙_, subst}
-use mathlib.Core.Logic.{_⊎_, inl, inr}
-use mathlib.Core.List.{List, [], _∷_, map}
-use mathlib.Core.Option.{Option, none, some}
+use mathlib.Core.List.{List, map}
+use mathlib.Core.Option.{Option, some}
 use mathlib.Core.Bool.{Bool, true, false, cond, _||_}
 use lib.Dec.{ltb, leb}
 use lib.Ieee.{binary32, ofBits}
@@ -15,7 +14,7 @@ use borrow.Author.Tests.{lt-ltb, le-ltb, le-leb, ltb-true, ltb-false}
 use Rattle.reg_matrix.specs.Lists.{isNil}
 use Rattle.reg_matrix.specs.Refusals.{refusal, shortBuffer}
 use Rattle.job.specs.Model.{Job}
-use Rattle.job.specs.Layout.{JobSlices, headerOf}
+use Rattle.job.specs.Layout.{JobSlices}
 use Rattle.job.specs.declared.JobHeader.{JobHeader}
 use Rattle.allocator.specs.declared.Assignment.{Assignment}
 use Rattle.allocator.specs.State.{State, recordOf, checkOf}
@@ -30,7 +29,7 @@ use Rattle.call_tests.proofs.RefusalLaws.{placing-tests, evicting-tests}
 use Rattle.records.specs.Words.{recordWord, recordsIn, AllPlain}
 use Rattle.words.specs.Words.{headerIn, cut}
 use Rattle.pezhkadu.specs.Calling.{Called, assignShort, evictShort, EvictCalled}
-use Rattle.words.proofs.NumberLaws.{uncut, cut-off}
+use Rattle.words.proofs.NumberLaws.{uncut}
 use Rattle.pezhkadu.proofs.CallLaws.{own-short, call-refused, call-done}
 
 -- ---- cut numbers

@@ -1,5 +1,5 @@
 -- A load that is carried out leaves what every call asks for: a header and records that are read again as they are. Assumes nothing.
-use Prim.Native.Nat.{ℕ, zero, suc, _+_, _%_, _≤_, _<_, _^_}
+use Prim.Native.Nat.{ℕ, zero, suc, _+_, _≤_, _<_, _^_}
 use native.Mathlib.Omega.{arith}
 use native.Mathlib.Nat.{mod-eq-of-lt}
 use mathlib.Core.Path.{_≡_, refl, sym, ap, _∙_, subst}
@@ -26,13 +26,11 @@ use Rattle.allocator.specs.declared.Assignment.the-variants.{Unassigned, Dead}
 use Rattle.allocator.specs.State.{freshState}
 use Rattle.allocator.specs.Layout.{StateBuffers}
 use Rattle.allocator.specs.Calls.{load}
-use Rattle.allocator.specs.Reached.{Reached}
 use Rattle.allocator.proofs.Good.{good-reached, reached-fresh}
 use Rattle.loader.specs.declared.load.JobLoaded.the-variants.{Is}
 use Rattle.calls.specs.Calling.{sizesOf, StateStands}
-use Rattle.calls.specs.StageLoading.{laterState, laterJob, StageLoadParts, StageLoadDone}
+use Rattle.calls.specs.StageLoading.{StageLoadParts, StageLoadDone}
 use Rattle.records.specs.Fields.{firstRecords}
-use Rattle.calls.specs.Trace as trace
 use Rattle.calls.proofs.StageLoads.{just-loaded}
 use Rattle.records.specs.Words.{recordWord, recordIn, recordsIn}
 use Rattle.records.proofs.WordLaws.{first-word}

@@ -2,7 +2,7 @@
 use Prim.Native.Nat.{ℕ, _≤_, _<_}
 use native.Mathlib.Omega.{arith}
 use mathlib.Core.Path.{_≡_, refl, sym, ap, _∙_, subst}
-use mathlib.Core.List.{List, [], _∷_, map}
+use mathlib.Core.List.{List, map}
 use mathlib.Core.Bool.{Bool, true, false, _||_}
 use lib.Dec.{ltb}
 use lib.ListN.{length, set}
@@ -14,7 +14,7 @@ use Rattle.allocator.specs.Layout.{StateBuffers}
 use Rattle.calls.specs.Calling as calling
 use Rattle.records.specs.Words.{recordWord, recordsIn, AllPlain}
 use Rattle.words.specs.Words.{headerIn}
-use Rattle.pezhkadu.specs.Calling.{Called, RunCalled, runShort}
+use Rattle.pezhkadu.specs.Calling.{RunCalled, runShort}
 use Rattle.pezhkadu.proofs.CallLaws.{own-short, call-refused, call-done}
 
 module _ (B : JobSlices) (budget : ℕ) (S : StateBuffers) (ws answer : List ℕ) where

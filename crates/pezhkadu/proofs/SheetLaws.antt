@@ -1,14 +1,13 @@
 -- What is read from lent words on a state that calls reach: a virtual register stands as its record says, and the lines from position 0 on are
 -- together the sheet. Assumes nothing.
-use Prim.Native.Nat.{ℕ, _+_, _-_, _%_, _≤_, _<_, _^_}
+use Prim.Native.Nat.{ℕ, _+_, _-_, _<_}
 use native.Mathlib.Omega.{arith}
 use mathlib.Core.Path.{_≡_, refl, sym, ap, _∙_, subst}
-use mathlib.Core.List.{List, [], _∷_, _++_, map}
+use mathlib.Core.List.{List, _∷_}
 use mathlib.Core.Bool.{Bool, true, false, not, cond, _&&_}
 use lib.Dec.{ltb, leb, eqb}
 use lib.ListN.{length, getD}
-use borrow.Author.Tests.{lt-ltb, le-ltb, lt-leb, ltb-true}
-use Rattle.reg_matrix.specs.Lists.{count}
+use borrow.Author.Tests.{lt-ltb, lt-leb, ltb-true}
 use Rattle.reg_matrix.specs.Layout.{maxEntries, greatest}
 use Rattle.reg_matrix.proofs.Places.{from-zero}
 use Rattle.job.specs.Model.{Job}

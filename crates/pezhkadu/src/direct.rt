@@ -1,5 +1,4 @@
 // Direct placements and evictions over a header and records that stand in lent words.
-ghost use mathlib.Core.Path.{_≡_};
 ghost use lib.Ieee.{binary32, ofBits};
 ghost use Rattle.job.specs.Layout.{slices};
 ghost use Rattle.run_loop.specs.Running.{lentState};

@@ -1,5 +1,4 @@
 // Loading a stage whose header and records stand in lent words.
-ghost use mathlib.Core.Path.{_≡_};
 ghost use Rattle.job.specs.Layout.{slices};
 ghost use Rattle.run_loop.specs.Running.{lentState};
 ghost use Rattle.pezhkadu.specs.Loading.{LoadCalled};

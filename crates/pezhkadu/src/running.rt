@@ -1,6 +1,4 @@
 // A run over records that stand in lent words.
-ghost use mathlib.Core.Path.{_≡_};
-ghost use lib.ListN.{length};
 ghost use Rattle.job.specs.Layout.{slices};
 ghost use Rattle.run_loop.specs.Running.{lentState};
 ghost use Rattle.pezhkadu.specs.Calling.{RunCalled};

@@ -14,7 +14,7 @@ use lib.Count.{trailingZeros}
 use borrow.Author.Tests.{eqb-true, eqb-false}
 use Rattle.reg_matrix.specs.Lists.{concatMap}
 use Rattle.reg_matrix.specs.Refusals.{rangesRefusal}
-use Rattle.reg_matrix.specs.Table.{Table, isUse, fixedUses, onUnit}
+use Rattle.reg_matrix.specs.Table.{Table, fixedUses, onUnit}
 use Rattle.reg_matrix.specs.Check.{checkOn, check}
 use Rattle.reg_matrix.specs.Assign.{heldBy, fixedIndex}
 use Rattle.reg_matrix.specs.Layout.{maxEntries, maxFixed, useValue}
@@ -27,7 +27,7 @@ use Rattle.reg_matrix.specs.declared.Reservation.{Reservation}
 use Rattle.reg_matrix.specs.declared.Reservation.the-variants.{Held, FixedUse, FixedDef}
 use Rattle.reg_matrix.specs.declared.Interference.{Interference}
 use Rattle.matrix.specs.declared.Move.the-variants.{Ends}
-use Rattle.reg_matrix.proofs.Members.{_∈_, fixedUses-out}
+use Rattle.reg_matrix.proofs.Members.{_∈_}
 use Rattle.reg_matrix.proofs.Cells.{Cell}
 use Rattle.reg_matrix.proofs.Chains.{Sound}
 use Rattle.reg_matrix.proofs.Apart.{entry-nonempty}
@@ -36,7 +36,7 @@ use Rattle.reg_matrix.proofs.Laws.{Matrix, table-size, entry-source, index-size
 use Rattle.matrix.proofs.Starts.{Passed, ranges-passed}
 use Rattle.matrix.proofs.Walks.{remaining-step}
 use Rattle.matrix.proofs.UnitMaps.{no-units, first-unit, units-lowest}
-use Rattle.matrix.proofs.Decode.{SmallIndex, SmallReservation, Small, SmallUse}
+use Rattle.matrix.proofs.Decode.{SmallIndex, SmallReservation, Small}
 use Rattle.placing.proofs.Reading.{Holds, Walkable}
 use Rattle.placing.proofs.Lying.{AllSmall, use-small}
 use Rattle.placing.proofs.Moving.{SmallCells}

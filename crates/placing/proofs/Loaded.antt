@@ -1,29 +1,28 @@
 -- All fixed reservations put in, one after another, where nothing was: the fresh table stands, and its fixed uses lie. Assumes nothing.
-use Prim.Native.Nat.{ℕ, zero, suc, _+_, _-_, _*_, _%_, _^_, _≤_, _<_}
+use Prim.Native.Nat.{ℕ, _+_, _-_, _*_, _%_, _^_, _≤_, _<_}
 use native.Mathlib.Omega.{arith}
-use mathlib.Core.Path.{_≡_, refl, sym, ap, subst, _∙_}
+use mathlib.Core.Path.{_≡_, refl, sym, ap, subst}
 use mathlib.Core.Logic.{_⊎_, inl, inr}
-use mathlib.Core.List.{List, [], _∷_, _++_, append-assoc, append-nil, List·Memᴰ·head, List·Memᴰ·tail, List·Memᴰ·append-cases, Memᴰ·append-left, Memᴰ·append-right}
-use mathlib.Core.Bool.{Bool, true, false, _&&_}
+use mathlib.Core.List.{List, [], _∷_, _++_, append-assoc, append-nil, List·Memᴰ·head, List·Memᴰ·tail, Memᴰ·append-left, Memᴰ·append-right}
+use mathlib.Core.Bool.{true, _&&_}
 use lib.Dec.{T, eqb}
 use lib.ListN.{length, drop, length-append}
-use borrow.Author.Tests.{eq-eqb, ne-eqb}
+use borrow.Author.Tests.{ne-eqb}
 use Rattle.reg_matrix.specs.Lists.{foldl}
 use Rattle.reg_matrix.specs.Table.{Table, isUse, fixedUses, insert, insertAll, freshTable}
 use Rattle.reg_matrix.specs.Layout.{maxEntries, maxFixed, endWord, reservationWord, useValue, useWord}
 use Rattle.reg_matrix.specs.declared.Entry.{Entry}
-use Rattle.reg_matrix.specs.declared.FixedIndex.{FixedIndex}
 use Rattle.reg_matrix.specs.declared.Reservation.{Reservation}
 use Rattle.reg_matrix.specs.declared.Reservation.the-variants.{Held, FixedUse, FixedDef}
 use Rattle.reg_matrix.proofs.Members.{_∈_, fixedUses-in, fixedUses-out}
 use Rattle.reg_matrix.proofs.Places.{filter-append}
-use Rattle.reg_matrix.proofs.Sorted.{Sorted, Parted, OrderedTo, insertAll-sorted, insertAll-out}
+use Rattle.reg_matrix.proofs.Sorted.{Sorted, Parted, insertAll-sorted, insertAll-out}
 use Rattle.reg_matrix.proofs.Chains.{Chain, Sound, not-held}
-use Rattle.entries.specs.Moves.{Words, inserting}
+use Rattle.entries.specs.Moves.{inserting}
 use Rattle.entries.specs.Placing.{insertingUse}
 use Rattle.entries.specs.Reserving.{Lain, cleared, reserving, insertingWord}
 use Rattle.placing.proofs.Standing.{SmallEnd, SmallEnds, Stands}
-use Rattle.placing.proofs.Lying.{AllSmall, allUses, UsesLie}
+use Rattle.placing.proofs.Lying.{AllSmall, UsesLie}
 use Rattle.placing.proofs.Evicted.{insertAll-length}
 use Rattle.placing.proofs.Reserved.{clear-stands, clear-lies, use-stands, def-stands, use-lies, def-lies, uses-few}
 

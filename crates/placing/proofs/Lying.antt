@@ -20,9 +20,8 @@ use Rattle.reg_matrix.specs.declared.Entry.{Entry}
 use Rattle.reg_matrix.specs.declared.Reservation.{Reservation}
 use Rattle.reg_matrix.specs.declared.Reservation.the-variants.{Held, FixedUse, FixedDef}
 use Rattle.reg_matrix.proofs.Members.{_∈_, filter-none, fixedUses-out, concat-out}
-use Rattle.reg_matrix.proofs.Cells.{Nonempty}
 use Rattle.reg_matrix.proofs.Small.{SmallEntry}
-use Rattle.reg_matrix.proofs.Chains.{Chain, Sound, uses-nonempty}
+use Rattle.reg_matrix.proofs.Chains.{Sound}
 use Rattle.matrix.proofs.Decode.{SmallUse}
 use Rattle.matrix.proofs.UseWords.{units-rise}
 use Rattle.placing.proofs.Standing.{below-step, below-past, below-none, below-all, below-append, found-padded}

@@ -8,7 +8,7 @@ use mathlib.Core.Logic.{_⊎_, inl, inr}
 use mathlib.Core.List.{List, [], _∷_, _++_, map, append-assoc, List·Memᴰ·head, List·Memᴰ·tail, List·Memᴰ·cases-cons, Memᴰ·map}
 use mathlib.Core.Bool.{Bool, true, false, not, _&&_, _||_, cond, or-true}
 use lib.Dec.{ltb, eqb, eqb→eq}
-use lib.ListN.{length, take, drop, getD, length-map, take-append-drop}
+use lib.ListN.{length, drop, getD, length-map, take-append-drop}
 use lib.Seq.{drop-nil}
 use lib.Count.{trailingZeros, trailing-le}
 use borrow.Author.Tests.{lt-ltb, le-ltb, le-leb, lt-leb, eq-eqb, ne-eqb, ltb-true, ltb-false, eqb-true, eqb-false}
@@ -16,7 +16,7 @@ use Rattle.reg_matrix.specs.Lists.{keep, filter, any, padded}
 use Rattle.reg_matrix.specs.Table.{Table, fixedUses, onUnit}
 use Rattle.reg_matrix.specs.Check.{overlaps, indexed, ownUse, sharedPart, wholeUse, usesUnder, reportsOf, counts, checkOn}
 use Rattle.reg_matrix.specs.Layout.{maxEntries, maxFixed, greatest, endWord, useValue, endWords, useOf}
-use Rattle.matrix.specs.Search.{below, placeOf, Rises}
+use Rattle.matrix.specs.Search.{below, placeOf}
 use Rattle.matrix.specs.Walk.{Lent, segmentAt, segmentsFrom, entryAt, onward, underEntry, entered, meeting, entryStep, useMeeting, useStep, laterUnits, leaveUnit, stepOf, emit, remaining}
 use Rattle.reg_matrix.specs.declared.ValueSegment.{ValueSegment}
 use Rattle.reg_matrix.specs.declared.Entry.{Entry}
@@ -32,12 +32,11 @@ use Rattle.reg_matrix.proofs.Members.{_∈_, filter-none, drop-out, fixedUses-o
 use Rattle.reg_matrix.proofs.Sorted.{Before, Sorted, before→, below-out}
 use Rattle.reg_matrix.proofs.Chains.{Chain, chain-drop}
 use Rattle.reg_matrix.proofs.Whole.{Rising}
-use Rattle.matrix.proofs.Halves.{none-below, below-cons, place-searched}
+use Rattle.matrix.proofs.Halves.{none-below, below-cons}
 use Rattle.matrix.proofs.Starts.{or-none}
 use Rattle.matrix.proofs.Walks.{remaining-step}
 use Rattle.matrix.proofs.Passing.{ahead, behind, meets, counts-same, counts-stay, counts-once, check-end, check-empty, pass-entry, pass-segment, pass-stay, pass-on}
-use Rattle.reg_matrix.proofs.Places.{padded-length}
-use Rattle.matrix.proofs.UseWords.{uses-at, back-other, below-front, taken-length}
+use Rattle.matrix.proofs.UseWords.{uses-at, back-other}
 use Rattle.matrix.proofs.Decode.{Small, SmallUse, use-back, use-value, drop-next, drop-inside}
 use Rattle.placing.proofs.Standing.{SmallEnds, words-small, words-rise, found-padded}
 use Rattle.placing.proofs.Lying.{allUses}

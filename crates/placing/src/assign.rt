@@ -4,7 +4,7 @@ ghost use Prim.Native.Nat.{_-_, _<_, _≤_, _^_};
 ghost use lib.Count.{trailingZeros};
 ghost use Rattle.entries.specs.Moves.{words};
 ghost use Rattle.entries.specs.Placing.{usesBefore, indexPart, assigningSegment, assigningUnit, assigning};
-ghost use Rattle.entries.specs.Placing.{isOwn, insertingUse, insertingUses, firstUnder, evictingSegment, evictingUnit, evicting};
+ghost use Rattle.entries.specs.Placing.{isOwn, insertingUses, firstUnder, evictingSegment, evictingUnit, evicting};
 ghost use mathlib.Core.List.{[], _∷_};
 ghost use Rattle.reg_matrix.specs.Refusals.{shortBuffer};
 ghost use Rattle.entries.specs.Placing.{moveLimits, Assigned, Evicted};

@@ -19,7 +19,6 @@ use Rattle.job.specs.declared.Probe.the-variants.{Over, NoProbe}
 use Rattle.job.specs.declared.JobHeader.{JobHeader}
 use Rattle.allocator.specs.declared.Assignment.{Assignment}
 use Rattle.allocator.specs.Layout.{StateBuffers}
-use Rattle.allocator.specs.Sheet.{printed}
 use Rattle.lent.proofs.Laws.{sets-append}
 use Rattle.lines.specs.Texts.{Appended}
 use Rattle.listing.specs.declared.Place.{Place}

@@ -1,16 +1,13 @@
 -- The queue's words, in the shape of the code; stage/proofs/QueueLaws.antt ties these to Queue.antt and Layout.antt. Assumes nothing.
 use Prim.Native.Nat.{ℕ, zero, suc, _+_, _*_, _^_, _-_, _/_, _%_, min, max}
-use mathlib.Core.List.{List, _∷_, map}
+use mathlib.Core.List.{List}
 use mathlib.Core.Option.{Option, none, some}
 use mathlib.Core.Bool.{Bool, cond}
 use lib.Dec.{eqb, ltb}
 use lib.ListN.{getD, set}
-use Rattle.reg_matrix.specs.Lists.{count}
-use Rattle.job.specs.Model.{Job}
-use Rattle.allocator.specs.State.{State}
 use Rattle.allocator.specs.declared.Stage.{Stage}
 use Rattle.allocator.specs.declared.Stage.the-variants.{Evict, Split}
-use Rattle.allocator.specs.Queue.{stageBit, encode, Queued}
+use Rattle.allocator.specs.Queue.{stageBit, Queued}
 pub use Rattle.queue.specs.declared.Next.{Next}
 pub use Rattle.queue.specs.declared.Next.the-variants.{Nobody, Number}
 

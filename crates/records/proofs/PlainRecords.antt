@@ -1,12 +1,12 @@
 -- On a state that calls reach every record is read again as it was: its weight is no NaN and carries no sign. Assumes nothing.
-use Prim.Native.Nat.{ℕ, _<_}
+use Prim.Native.Nat.{_<_}
 use native.Mathlib.Omega.{arith}
 use native.Mathlib.Decide.{decLt}
 use mathlib.Core.Path.{_≡_, refl, sym, subst}
-use mathlib.Core.List.{List, map}
+use mathlib.Core.List.{map}
 use mathlib.Core.Option.{Option, none, some}
 use mathlib.Core.Bool.{Bool, true, false}
-use lib.ListN.{length, getD, length-map, List·getD-eq-default}
+use lib.ListN.{getD, length-map, List·getD-eq-default}
 use Rattle.reg_matrix.specs.Lists.{count}
 use Rattle.reg_matrix.proofs.Places.{from-zero, count-length}
 use Rattle.job.specs.Model.{Job, Plain}

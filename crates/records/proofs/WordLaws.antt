@@ -1,18 +1,17 @@
 -- What a record's word says when it is read again. Assumes nothing.
-use Prim.Native.Nat.{ℕ, suc, _+_, _-_, _*_, _%_, _/_, _≤_, _<_, _^_}
+use Prim.Native.Nat.{ℕ, _+_, _-_, _*_, _%_, _/_, _≤_, _<_}
 use native.Mathlib.Omega.{arith}
-use native.Mathlib.Nat.{mod-eq-of-lt}
 use native.Mathlib.Numerals.{add-one}
 use mathlib.Core.Path.{_≡_, refl, sym, ap, subst, _∙_}
-use mathlib.Core.List.{List, [], _∷_, _++_, map, append-nil}
-use mathlib.Core.Bool.{Bool, true, false, not, cond}
-use lib.Dec.{T, ltb, leb, eqb}
+use mathlib.Core.List.{List, map}
+use mathlib.Core.Bool.{Bool, true, false, not}
+use lib.Dec.{T, eqb}
 use lib.ListN.{length, getD, set, drop, length-map, length-set}
-use lib.Seq.{sets, sets-eq, drop-cons, drop-length, getD-set-same, getD-set-other, ext-getD}
-use lib.Ieee.{Float, nan, inf, fin, binary32, ofBits, toBits, nanBits, isNan, fits, top, ne, eq}
+use lib.Seq.{sets, drop-cons, drop-length, getD-set-same, getD-set-other, ext-getD}
+use lib.Ieee.{Float, nan, inf, fin, binary32, ofBits, toBits, isNan, fits, ne, eq}
 use lib.Ieee.Compare.{differs-from-itself}
-use lib.Ieee.Bits.{ofBits-toBits, toBits-lt, nanBits-above, nanBits-is}
-use borrow.Author.Tests.{le-ltb, ltb-false, le-leb, eqb-true, eqb-false}
+use lib.Ieee.Bits.{ofBits-toBits, toBits-lt, nanBits-is}
+use borrow.Author.Tests.{ltb-false, le-leb, eqb-true, eqb-false}
 use Rattle.lent.proofs.Laws.{any-default}
 use Rattle.reg_matrix.specs.Lists.{count}
 use Rattle.reg_matrix.proofs.Places.{count-length, from-zero}

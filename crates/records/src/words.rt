@@ -4,7 +4,6 @@ ghost use mathlib.Core.List.{map};
 ghost use Prim.Native.Nat.{_≤_};
 ghost use lib.ListN.{length};
 ghost use lib.Seq.{sets};
-ghost use Rattle.reg_matrix.specs.Lists.{count};
 ghost use Rattle.job.specs.Model.{Plain};
 ghost use Rattle.records.specs.Words.{weightBits, weightIn, recordWord, recordIn, recordsIn, PlainRecord, AllPlain};
 use crate::assignment::held_weight;

@@ -5,7 +5,7 @@ use mathlib.Core.Path.{_≡_, refl, sym, ap, _∙_, subst}
 use mathlib.Core.Logic.{_⊎_, inl, inr}
 use mathlib.Core.List.{List, [], _∷_, List·Memᴰ·head, List·Memᴰ·tail, List·Memᴰ·cases-cons, Memᴰ·append-left, Memᴰ·append-right, Memᴰ·map}
 use mathlib.Core.Bool.{Bool, true, false, not, _&&_, _||_, cond}
-use lib.Dec.{T, eqb, T-not, not-T}
+use lib.Dec.{T, eqb, not-T}
 use lib.ListN.{drop}
 use Rattle.reg_matrix.specs.Lists.{filter, any, concatMap}
 use Rattle.reg_matrix.specs.Table.{Table, unitsOf, fixedUses, onUnit}
@@ -20,8 +20,8 @@ use Rattle.reg_matrix.specs.declared.Reservation.the-variants.{Held, Fix
 use Rattle.reg_matrix.specs.declared.Interference.{Interference}
 use Rattle.reg_matrix.specs.declared.InterferenceKind.the-variants.{VirtReg, Fixed}
 use Rattle.reg_matrix.proofs.Tests.{both-in, or-left, or-right, passes-or-not, same-test}
-use Rattle.reg_matrix.proofs.Members.{_∈_, filter-in, any-in, any-out, concat-in, onUnit-in, fixedUses-in}
-use Rattle.reg_matrix.proofs.Cells.{Disjoint, Inside, replaced→, overlaps→, →overlaps, overlaps-or-not, Cell, entryFor, reserved, cell, IsTable, Among}
+use Rattle.reg_matrix.proofs.Members.{_∈_, filter-in, any-in, concat-in, onUnit-in, fixedUses-in}
+use Rattle.reg_matrix.proofs.Cells.{Disjoint, Inside, replaced→, overlaps→, →overlaps, Cell, entryFor, cell, IsTable, Among}
 use Rattle.reg_matrix.proofs.Chains.{from-first-in, Sound, not-held, uses-nonempty}
 use Rattle.reg_matrix.proofs.Whole.{cells, AllFree, Joins, Rising, joins-units}
 use Rattle.reg_matrix.proofs.Clear.{Segments, apart-unless, under-or-open}

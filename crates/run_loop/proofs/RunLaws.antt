@@ -1,5 +1,5 @@
 -- A run in code on a state that calls reach: after each dequeue the rest of the run from there is the rest of the whole. Assumes nothing.
-use Prim.Native.Nat.{ℕ, zero, suc, _-_, _<_, _≤_}
+use Prim.Native.Nat.{ℕ, zero, suc, _-_, _≤_}
 use native.Mathlib.Omega.{arith}
 use mathlib.Core.Path.{_≡_, refl, sym, ap, _∙_, subst}
 use mathlib.Core.List.{List, _++_}
@@ -17,7 +17,7 @@ use Rattle.allocator.specs.declared.Ending.the-variants.{Done, Spent, TooMany}
 use Rattle.allocator.specs.State.{State, records}
 use Rattle.allocator.specs.Queue.{Queued}
 use Rattle.allocator.specs.Layout.{StateBuffers, queueWords}
-use Rattle.allocator.specs.Dequeue.{Decision, decide, Step, goesOn, tooMany, stateOf, carryOut, dequeue}
+use Rattle.allocator.specs.Dequeue.{decide, Step, goesOn, tooMany, stateOf, carryOut, dequeue}
 use Rattle.allocator.specs.Run.{Ran, ran, nextOf, runFrom, run}
 use Rattle.allocator.specs.Reached.{Reached}
 use Rattle.allocator.proofs.Agrees.{queuedAt}
@@ -35,8 +35,8 @@ use Rattle.decisions.specs.declared.Fate.the-variants.{Leaves, Takes, Evicts, S
 use Rattle.decisions.specs.declared.Decided.{Decided}
 use Rattle.decisions.specs.Deciding.{decisionBy, decisionOf, classIn, decidedIn, reading}
 use Rattle.records.specs.Fields.{flagIn}
-use Rattle.context.specs.Carrying.{EvictReads, TakeReads, CarriedOut}
-use Rattle.run_loop.specs.Running.{lentJob, lentState, isFails, endingNumber, RunMade, RunDone}
+use Rattle.context.specs.Carrying.{CarriedOut}
+use Rattle.run_loop.specs.Running.{lentJob, isFails, endingNumber, RunMade, RunDone}
 use Rattle.context.proofs.Decision.{decision-is}
 
 -- ---- the rules' run, one dequeue at a time

@@ -1,8 +1,6 @@
 -- What is printed by the three numbers of an answer is the line of the answer. Assumes nothing.
-use Prim.Native.Nat.{ℕ}
 use mathlib.Core.Path.{_≡_, refl}
 use borrow.Author.Tests.{ne-eqb}
-use Rattle.allocator.specs.declared.Ending.{Ending}
 use Rattle.allocator.specs.declared.Ending.the-variants.{Done, Spent, TooMany}
 use Rattle.allocator.specs.Calls.{Answer, refused, placed, evicted, ended}
 use Rattle.allocator.specs.Script.{answerLine}

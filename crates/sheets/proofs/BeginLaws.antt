@@ -1,13 +1,11 @@
 -- A job that is loaded and run with its budget: the lines from the first position are together the printed sheet. Assumes nothing.
 use Prim.Native.Nat.{ℕ, _+_, _-_, _≤_, _<_}
 use native.Mathlib.Omega.{arith}
-use native.Mathlib.Decide.{decLt}
 use mathlib.Core.Path.{_≡_, refl, sym, ap, _∙_, subst}
 use mathlib.Core.List.{List, [], _∷_, _++_, map}
-use mathlib.Core.Option.{Option, none, some}
-use mathlib.Core.Bool.{Bool, true, false, not, _||_, or-true, or-false}
+use mathlib.Core.Bool.{Bool, true, false, _||_, or-true, or-false}
 use lib.Dec.{ltb}
-use lib.ListN.{length, drop, getD, replicate, length-drop, length-map, length-append, length-replicate, List·getD-eq-default}
+use lib.ListN.{length, drop, replicate, length-drop, length-map, length-append, length-replicate}
 use lib.Seq.{sets, sets-eq}
 use borrow.Author.Tests.{lt-ltb, le-ltb}
 use Rattle.lent.specs.Parts.{Begins}
@@ -15,24 +13,22 @@ use Rattle.reg_matrix.specs.Lists.{count, padded}
 use Rattle.reg_matrix.specs.Lines.{refusedLine}
 use Rattle.reg_matrix.specs.Refusals.{refusal, shortBuffer}
 use Rattle.reg_matrix.specs.Layout.{maxEntries, endWords, restWords, useWords}
-use Rattle.reg_matrix.proofs.Places.{count-length, from-zero}
-use Rattle.job.specs.Model.{Job, Plain}
+use Rattle.reg_matrix.proofs.Places.{count-length}
+use Rattle.job.specs.Model.{Job}
 use Rattle.job.specs.Load.{Bytes, wholeJob, Loaded, notLoaded, loaded, loadWith}
 use Rattle.job.specs.Layout.{JobSlices, jobBuffers, headerOf, listsIn}
 use Rattle.job.specs.declared.JobHeader.{JobHeader}
 use Rattle.allocator.specs.declared.Assignment.{Assignment}
-use Rattle.allocator.specs.declared.Assignment.the-variants.{Dead}
-use Rattle.allocator.specs.declared.CandidateReg.{CandidateReg}
 use Rattle.allocator.specs.declared.Ending.{Ending}
 use Rattle.allocator.specs.declared.Ending.the-variants.{Done, Spent, TooMany}
-use Rattle.allocator.specs.State.{State, freshState, heldBy, isLeftOver, flag, assignment, recordOf, records}
+use Rattle.allocator.specs.State.{State, freshState, recordOf, records}
 use Rattle.allocator.specs.Layout.{StateBuffers, stageLimits, queueWords, lastWords}
 use Rattle.allocator.specs.Calls.{load, running, refusalOf, carriedOut, after, answerOf}
 use Rattle.allocator.specs.Run.{run}
 use Rattle.allocator.specs.Reached.{Reached}
-use Rattle.allocator.specs.Sheet.{sheet, sheetOf, printed}
+use Rattle.allocator.specs.Sheet.{sheetOf, printed}
 use Rattle.allocator.proofs.Loading.{stage-premises}
-use Rattle.allocator.proofs.Good.{good-reached, reached-fresh, reached-run}
+use Rattle.allocator.proofs.Good.{reached-fresh, reached-run}
 use Rattle.loader.specs.declared.load.JobLoaded.{JobLoaded}
 use Rattle.loader.specs.declared.load.JobLoaded.the-variants.{Is, Refused as NotLoaded}
 use Rattle.stage.proofs.QueueLaws.{tournament-length}

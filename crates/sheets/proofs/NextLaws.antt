@@ -1,17 +1,13 @@
 -- The next line of a sheet whose records stand in words. Assumes nothing.
 use Prim.Native.Nat.{ℕ, suc, _≤_, _<_}
 use native.Mathlib.Omega.{arith}
-use mathlib.Core.Path.{_≡_, refl, sym, ap, _∙_, subst}
+use mathlib.Core.Path.{_≡_, sym, ap, _∙_, subst}
 use mathlib.Core.List.{List}
-use mathlib.Core.Bool.{Bool, true, false, cond}
-use lib.Dec.{ltb}
+use mathlib.Core.Bool.{Bool, cond}
 use lib.ListN.{length, getD}
-use borrow.Author.Tests.{le-ltb, ltb-true}
-use Rattle.reg_matrix.proofs.Places.{from-zero}
+use borrow.Author.Tests.{le-ltb}
 use Rattle.allocator.specs.declared.Assignment.{Assignment}
-use Rattle.allocator.specs.declared.Assignment.the-variants.{Dead}
 use Rattle.listing.specs.declared.Place.{Place}
-use Rattle.listing.specs.declared.Place.the-variants.{Head, VirtReg, Entry, End}
 use Rattle.listing.specs.declared.Listing.{Listing}
 use Rattle.listing.specs.declared.Step.{Step}
 use Rattle.listing.specs.declared.Step.the-variants.{Line, End as NoMore, Refused as NotListed}

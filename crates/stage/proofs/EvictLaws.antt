@@ -3,7 +3,7 @@ use Prim.Native.Nat.{ℕ, _<_}
 use native.Mathlib.Omega.{arith}
 use mathlib.Core.Path.{_≡_, refl, ap, sym, _∙_}
 use mathlib.Core.List.{List, [], _∷_, _++_}
-use mathlib.Core.Bool.{Bool, true, false, not, _&&_, _||_, cond}
+use mathlib.Core.Bool.{Bool, true, false, not, _||_, cond}
 use lib.Dec.{ltb, eqb}
 use lib.Ieee.{Float, binary32, add, lt, eq}
 use lib.ListN.{length, getD, set, replicate, length-set, length-replicate, getD-replicate}

@@ -7,7 +7,7 @@ use mathlib.Core.List.{List, [], _∷_, _++_, map, append-nil, List·Memᴰ·hea
 use mathlib.Core.Option.{Option, none, some}
 use mathlib.Core.Bool.{Bool, true, false, not, _&&_, _||_, cond}
 use lib.Dec.{T}
-use lib.Ieee.{Float, binary32, ofBits, add, lt, eq}
+use lib.Ieee.{Float, binary32, add, lt, eq}
 use lib.Ieee.Bits.{ofBits-fits}
 use lib.ListN.{length, getD, length-map, List·getD-map}
 use Rattle.reg_matrix.specs.Lists.{filter, first, orElse, foldl, count, has, isNil}

@@ -5,7 +5,7 @@ use native.Mathlib.Nat.{mul-assoc, mul-comm, mul-right-comm, mul-left-comm, eq-o
 use native.Mathlib.Decide.{decLt}
 use native.Mathlib.Omega.{arith}
 use mathlib.Core.Path.{_≡_, refl, ap, sym, _∙_, subst}
-use mathlib.Core.Bool.{Bool, true, false, not, _&&_, _||_, and-true}
+use mathlib.Core.Bool.{Bool, true, false, _&&_, _||_, and-true}
 use lib.Dec.{T, ltb, leb, eqb, ltb→lt, lt→ltb, leb→le, eqb→eq}
 use lib.Pow.{pow-pos, pow-lt, pow-add}
 use lib.IntN.{ℤ, pos, negsuc}

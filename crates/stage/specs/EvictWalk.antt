@@ -10,7 +10,6 @@ use Rattle.reg_matrix.specs.declared.Interference.{Interference}
 use Rattle.reg_matrix.specs.declared.InterferenceKind.{InterferenceKind}
 use Rattle.reg_matrix.specs.declared.InterferenceKind.the-variants.{Fixed, VirtReg}
 use Rattle.job.specs.Model.{zeroWeight}
-use Rattle.reg_matrix.specs.Lists.{foldl, has}
 use Rattle.allocator.specs.Evict.{maxWeight, cheaper}
 use Rattle.allocator.specs.declared.EvictCost.{EvictCost}
 use Rattle.stage.specs.declared.evict.Tried.{Tried}

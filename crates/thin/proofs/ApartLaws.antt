@@ -3,14 +3,13 @@
 use Prim.Native.Nat.{ℕ, suc, _+_, _-_, _≤_, _<_, min}
 use native.Mathlib.Omega.{arith}
 use native.Mathlib.Numerals.{add-one}
-use native.Mathlib.Nat.{min-comm, min-eq-left, min-eq-right, min-le-right}
+use native.Mathlib.Nat.{min-comm, min-le-right}
 use mathlib.Core.Path.{_≡_, refl, sym, _∙_, ap}
 use mathlib.Core.List.{List, [], _∷_, _++_, map, map-append}
-use mathlib.Core.Bool.{Bool, true, false}
+use mathlib.Core.Bool.{Bool}
 use lib.Dec.{ltb}
 use lib.ListN.{length, take, set, getD, replicate, length-append, length-map, length-take}
-use lib.Seq.{take-suc, take-all, take-append-seam, set-at, append-snoc, length-take-le}
-use borrow.Author.Tests.{ltb-true, ltb-false}
+use lib.Seq.{take-suc, take-append-seam, set-at, append-snoc, length-take-le}
 use Rattle.reg_matrix.specs.Lists.{padded}
 use Rattle.reg_matrix.specs.declared.ValueSegment.{ValueSegment}
 use Rattle.lent.specs.Parts.{part}

@@ -1,5 +1,4 @@
 // Placing and evicting over segment structs.
-ghost use mathlib.Core.Path.{_≡_};
 ghost use lib.Dec.{ltb};
 ghost use lib.ListN.{length};
 ghost use Rattle.entries.specs.Moves.{words};

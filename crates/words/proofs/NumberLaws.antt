@@ -1,13 +1,12 @@
 -- Numbers that stand for what other crates pass by value: what the code computes is what the definitions say, and a place is read back. Assumes nothing.
 use Prim.Native.Nat.{ℕ, _+_, _-_, _<_, _≤_}
-use mathlib.Core.Path.{_≡_, refl, sym, ap, _∙_}
-use mathlib.Core.Bool.{Bool, true, false}
+use mathlib.Core.Path.{_≡_, refl}
+use mathlib.Core.Bool.{Bool}
 use lib.Ieee.{Float}
 use borrow.Author.Tests.{lt-ltb, le-ltb, eq-eqb, ne-eqb}
-use Rattle.reg_matrix.specs.Layout.{maxEntries, greatest}
+use Rattle.reg_matrix.specs.Layout.{greatest}
 use Rattle.allocator.specs.declared.Assignment.{Assignment}
 use Rattle.allocator.specs.declared.Assignment.the-variants.{Assigned}
-use Rattle.allocator.specs.declared.Ending.{Ending}
 use Rattle.allocator.specs.declared.Ending.the-variants.{Done, Spent, TooMany}
 use Rattle.listing.specs.declared.Place.{Place}
 use Rattle.listing.specs.declared.Place.the-variants.{Head, VirtReg, Entry, End}

@@ -1,6 +1,5 @@
 use borrow.Author.Needs.{needs}
 use mathlib.Core.Logic.{inl, inr}
-use Rattle.job.specs.Layout.{slices}
 use Rattle.calls.proofs.StageLoads.{short-load, refused-load, accepted-load}
 use Rattle.calls.proofs.loads.load.Statement.{statement}
 use Rattle.calls.proofs.loads.load.Tie as tie

@@ -1,5 +1,4 @@
 use borrow.Author.Needs.{needs}
-use mathlib.Core.Path.{refl}
 use Rattle.context.proofs.carry.given.Statement.{statement}
 use Rattle.context.proofs.carry.given.Tie as tie
 

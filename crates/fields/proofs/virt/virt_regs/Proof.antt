@@ -3,7 +3,7 @@
 use borrow.Author.Needs.{needs}
 use Prim.Native.Nat.{_-_}
 use native.Mathlib.Omega.{arith}
-use mathlib.Core.Path.{_≡_, _∙_}
+use mathlib.Core.Path.{_∙_}
 use Rattle.job.specs.Load.{virtRegAfter}
 use Rattle.reader.proofs.Reading.{stops, ends}
 use Rattle.reader.proofs.Tables.{hintsIn-length, segmentsIn-length}

@@ -1,7 +1,6 @@
 use borrow.Author.Needs.{needs}
 use native.Mathlib.Omega.{arith}
 use mathlib.Core.Path.{_∙_}
-use mathlib.Core.List.{[]}
 use Rattle.job.specs.Load.{virtRegAfter}
 use Rattle.reader.proofs.Answers.{no-num, took-num, num-small}
 use Rattle.reader.proofs.Tables.{counted}

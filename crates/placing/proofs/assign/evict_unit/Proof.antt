@@ -1,7 +1,6 @@
 use borrow.Author.Needs.{needs}
 use Prim.Native.Nat.{_-_}
 use mathlib.Core.Path.{_≡_, refl, sym, _∙_}
-use mathlib.Core.List.{[]}
 use lib.ListN.{length, drop}
 use Rattle.entries.specs.Moves.{words}
 use Rattle.entries.specs.Placing.{evictingUnit}

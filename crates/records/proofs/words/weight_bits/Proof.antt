@@ -1,4 +1,3 @@
-use borrow.Author.Needs.{needs}
 use Rattle.records.proofs.WordLaws.{is-number, differs-plain, weight-back}
 use mathlib.Core.Path.{refl}
 use Rattle.records.proofs.words.weight_bits.Statement.{statement}

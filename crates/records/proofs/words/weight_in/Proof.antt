@@ -1,4 +1,3 @@
-use borrow.Author.Needs.{needs}
 use Rattle.job.proofs.WeightBits.{not-nan}
 use borrow.Author.Tests.{le-leb, lt-leb}
 use Rattle.records.proofs.words.weight_in.Statement.{statement}

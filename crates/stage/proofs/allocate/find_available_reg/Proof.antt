@@ -9,7 +9,7 @@ use lib.ListN.{length}
 use Rattle.matrix.specs.Walk.{lent}
 use Rattle.allocator.specs.declared.CandidateReg.{CandidateReg}
 use Rattle.order.specs.OrderWalk.{Computed, offersFrom}
-use Rattle.stage.specs.AllocateWalk.{clearOn, availableIn}
+use Rattle.stage.specs.AllocateWalk.{availableIn}
 use Rattle.stage.proofs.AllocateLaws.{clear-is, available-end, available-skip, available-clear, available-not, available-past}
 use Rattle.stage.proofs.allocate.find_available_reg.Statement.{statement}
 use Rattle.stage.proofs.allocate.find_available_reg.Tie as tie

@@ -1,4 +1,3 @@
-use borrow.Author.Needs.{needs}
 use Rattle.stage.proofs.allocate.is_preferred.Statement.{statement}
 use Rattle.stage.proofs.allocate.is_preferred.Tie as tie
 

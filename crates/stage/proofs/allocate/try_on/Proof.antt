@@ -1,5 +1,5 @@
 use borrow.Author.Needs.{needs}
-use mathlib.Core.Path.{_∙_, ap}
+use mathlib.Core.Path.{_∙_}
 use Rattle.stage.specs.AllocateWalk.{reportsOn}
 use Rattle.stage.proofs.allocate.try_on.Statement.{statement}
 use Rattle.stage.proofs.allocate.try_on.Tie as tie
