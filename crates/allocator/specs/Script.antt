@@ -12,7 +12,7 @@ use Rattle.reg_matrix.specs.Lines.{number, sp, line, refusedLine, tableLines, r
 use Rattle.reg_matrix.specs.Questions.{Checked, notChecked, checked, checkLimits, askCheck, Spared, notAsked, isSpare, tableLimits, askSpare}
 use Rattle.reg_matrix.specs.declared.ValueSegment.{ValueSegment}
 use Rattle.job.specs.Model.{Job}
-use Rattle.job.specs.Parser.{Parsed, refused, parsed, Parser, done, each, little}
+use Rattle.job.specs.Parser.{Parsed, refused, parsed, Parser, _>>=_, _>>_, done, each, little}
 use Rattle.job.specs.Load.{Loaded, notLoaded, loaded}
 use Rattle.allocator.specs.State.{State, Stage, Assignment, Assigned, Unassigned, Dead, recordOf, freshState}
 use Rattle.allocator.specs.Queue.{encode}

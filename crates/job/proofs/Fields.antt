@@ -24,9 +24,9 @@ use Rattle.job.specs.declared.Hint.{Hint}
 use Rattle.job.specs.declared.FixedFields.{FixedFields}
 use Rattle.job.specs.declared.VirtRegFields.{VirtRegFields}
 use Rattle.job.specs.Model.{VirtReg, Job}
-use Rattle.job.specs.Parser.{Parsed, refused, parsed, Parser, andThen, done, ifBit, each, little}
+use Rattle.job.specs.Parser.{Parsed, refused, parsed, Parser, andThen, _>>=_, done, ifBit, each, little}
 use Rattle.job.specs.Load.{countOf, known, badSpillBits, badHintBits, register, class, fixedFields, lastEnd, fixedRange, fixedTests, reservation, hint, range, pastOf, segment, hintsIn, segmentsIn, hintCount, segmentCount, hints, segments, spillBits, virtRegFields, virtRegAt, virtRegAfter, jobFields, twin, mixedSet, cutUse, wholeJob, notLoaded, loaded, asLoaded, loadWith, Bytes}
-use Rattle.job.proofs.Premises.{Plain, Finite, GoodSegment, GoodProbe}
+use Rattle.job.proofs.Premises.{Plain, Finite, SmallSegment, GoodSlots, GoodSegment, GoodProbe}
 use Rattle.job.proofs.Readers.{Left, Got, got-done, got-bit, got-cond, got-then, got-so, got-refuse, got-little, got-number, got-each}
 use Rattle.job.proofs.Lists.{Each, each-none, Pairs, each-more, pairs-more, foldl-more, lastTo, ended-more}
 use Rattle.job.proofs.Weights.{neither, plain-spill, finite-hint}

@@ -1,6 +1,6 @@
 -- Bytes written in hexadecimal, digits 0 .. 9 and A .. F, with spaces between them. Assumes nothing.
 use Prim.Native.Nat.{ℕ, _+_, _-_, _*_}
-use Prim.Native.String.{String, _∷_ as _∷ˢ_}
+use Prim.Native.String.{String, [] as []ˢ, _∷_ as _∷ˢ_}
 use Prim.Native.Char.{code}
 use mathlib.Core.List.{List, [], _∷_}
 use mathlib.Core.Option.{Option, none, some}

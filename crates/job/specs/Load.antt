@@ -19,7 +19,7 @@ use Rattle.job.specs.declared.Hint.{Hint}
 use Rattle.job.specs.declared.FixedFields.{FixedFields}
 use Rattle.job.specs.declared.VirtRegFields.{VirtRegFields}
 use Rattle.job.specs.Model.{VirtReg, Job}
-use Rattle.job.specs.Parser.{Parsed, refused, parsed, Parser, done, ifBit, each, refuse, little, rest}
+use Rattle.job.specs.Parser.{Parsed, refused, parsed, Parser, andThen, _>>=_, _>>_, done, ifBit, each, refuse, little, rest}
 
 -- ---- numbers
 

@@ -9,11 +9,13 @@ use Rattle.reg_matrix.specs.Lists.{foldl, count, isNil}
 use Rattle.reg_matrix.specs.Table.{freshTable}
 use Rattle.reg_matrix.specs.Layout.{maxEntries, endWords, restWords}
 use Rattle.reg_matrix.specs.declared.Entry.{Entry}
+use Rattle.job.specs.declared.JobHeader.{JobHeader}
 use Rattle.job.specs.Model.{Job, zeroWeight}
-use Rattle.job.specs.Parser.{Parser, Parsed, refused, parsed, done, refuse, rest}
+use Rattle.job.specs.Parser.{Parser, Parsed, refused, parsed, _>>=_, _>>_, done, refuse, rest}
 use Rattle.job.specs.Load.{jobFields, twin, mixedSet, cutUse, Loaded, notLoaded, loaded, loadWith}
 use Rattle.job.specs.Layout.{JobSlices, jobSlices, loadLimits, headerOf}
 use Rattle.entries.specs.Reserving.{Lain, reserving}
+use Rattle.whole_fields.specs.declared.TableSizes.{TableSizes}
 use Rattle.whole_fields.specs.Whole.{JobAt, SizesOf}
 use Rattle.loader.specs.declared.load.JobTested.{JobTested}
 use Rattle.loader.specs.declared.load.JobTested.the-variants.{Is as IsTested, Refused as NotTested}

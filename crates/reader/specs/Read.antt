@@ -4,6 +4,7 @@ use Prim.Native.Nat.{ℕ, _+_, _≤_, _<_, _^_}
 use mathlib.Core.Path.{_≡_}
 use mathlib.Core.List.{List, [], map}
 use mathlib.Core.Bool.{Bool}
+use lib.Ieee.{Float}
 use lib.Seq.{sets}
 use lib.ListN.{drop, length, getD}
 use Rattle.reg_matrix.specs.Lists.{concatMap}
@@ -28,7 +29,7 @@ use Rattle.reader.specs.declared.fixed.EntryRead.the-variants.{Is as Rea
 use Rattle.reader.specs.declared.regs.ClassesRead.{ClassesRead}
 use Rattle.reader.specs.declared.regs.ClassesRead.the-variants.{Is as IsClasses, Refused as NoClasses}
 use Rattle.job.specs.Model.{VirtReg}
-use Rattle.job.specs.Parser.{Parser, Parsed, refused, parsed, little, ifBit, each}
+use Rattle.job.specs.Parser.{Parser, Parsed, refused, parsed, little, ifBit, each, _>>=_}
 use Rattle.job.specs.Load.{countOf, fixedFields, fixedTests}
 use Rattle.job.specs.Layout.{startsFrom}
 

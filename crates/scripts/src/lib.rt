@@ -1,7 +1,4 @@
 // Scripts (docs/SCRIPT.md): a job and calls and questions on it, read from standard input as they come, each printed with what it answers. Every
 // function here is safe and ends; what the lines say is the business of the crate transcript, what the calls do that of the crates below.
-mod input;
 mod making;
-mod output;
-mod questions;
 pub mod whole;

@@ -1,9 +1,9 @@
 // Calls on a loaded job, one after another.
-use crate::input::read_number;
-use crate::output::print;
-use crate::output::print_state;
-use crate::questions::ask_check;
-use crate::questions::ask_unit_free;
+use script_io::input::read_number;
+use script_io::output::print;
+use script_io::output::print_state;
+use script_io::questions::ask_check;
+use script_io::questions::ask_unit_free;
 use allocator::Assignment;
 use call_lists::lists::carry_out_list;
 use job::JobHeader;

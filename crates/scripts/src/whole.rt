@@ -1,12 +1,12 @@
 // A whole script: its length, its job, its calls.
-use crate::input::least;
-use crate::input::less;
-use crate::input::read_number;
-use crate::input::read_some;
-use crate::input::skip;
+use script_io::input::least;
+use script_io::input::less;
+use script_io::input::read_number;
+use script_io::input::read_some;
+use script_io::input::skip;
 use crate::making::make_calls;
 use crate::making::print_bad;
-use crate::output::print;
+use script_io::output::print;
 use calls::loads::load;
 use lent::part8;
 use loader::load::JobLoaded;

@@ -7,7 +7,7 @@ use lib.ListN.{drop}
 use Rattle.reg_matrix.specs.declared.ValueSegment.{ValueSegment}
 use Rattle.job.specs.declared.Probe.{Probe}
 use Rattle.job.specs.declared.Probe.the-variants.{Over, NoProbe}
-use Rattle.job.specs.Parser.{Parser, Parsed, refused, parsed, done, ifBit}
+use Rattle.job.specs.Parser.{Parser, Parsed, refused, parsed, done, ifBit, _>>=_}
 use Rattle.job.specs.Load.{range}
 use Rattle.whole_fields.specs.declared.ProbeRead.{ProbeRead}
 use Rattle.whole_fields.specs.declared.ProbeRead.the-variants.{Is as IsProbe, Refused as NoRange}

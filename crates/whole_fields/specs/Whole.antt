@@ -15,7 +15,7 @@ use Rattle.reg_matrix.specs.Lists.{bit}
 use Rattle.reg_matrix.specs.declared.Entry.{Entry}
 use Rattle.reg_matrix.specs.declared.ValueSegment.{ValueSegment}
 use Rattle.job.specs.Model.{Job}
-use Rattle.job.specs.Parser.{Parser, Parsed, refused, parsed, done, ifBit, little}
+use Rattle.job.specs.Parser.{Parser, Parsed, refused, parsed, _>>=_, done, ifBit, little}
 use Rattle.job.specs.Load.{virtRegAfter}
 use Rattle.job.specs.Layout.{startsFrom, JobSlices, headerOf}
 use Rattle.reader.specs.Read.{tableOf, allMembers, segmentsOfAll}

@@ -1,8 +1,8 @@
 use borrow.Author.Needs.{needs}
 use mathlib.Core.Path.{_≡_, refl, _∙_}
 use lib.ListN.{length}
-use Rattle.scripts.proofs.questions.print_reports.Statement.{statement}
-use Rattle.scripts.proofs.questions.print_reports.Tie as tie
+use Rattle.script_io.proofs.questions.print_reports.Statement.{statement}
+use Rattle.script_io.proofs.questions.print_reports.Tie as tie
 
 abbrev Inv-loop : tie.InvT-loop
 Inv-loop list n ends rests uses line₀ here₀ turns₀ line here turns = length line ≡ length line₀

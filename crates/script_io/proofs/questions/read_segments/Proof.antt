@@ -1,7 +1,7 @@
 use borrow.Author.Needs.{needs}
 use Prim.Native.Nat.{_-_}
-use Rattle.scripts.proofs.questions.read_segments.Statement.{statement}
-use Rattle.scripts.proofs.questions.read_segments.Tie as tie
+use Rattle.script_io.proofs.questions.read_segments.Statement.{statement}
+use Rattle.script_io.proofs.questions.read_segments.Tie as tie
 
 abbrev Inv-loop : tie.InvT-loop
 Inv-loop left₀ n list₀ i₀ left list i = Unit {0}

@@ -1,8 +1,8 @@
 use borrow.Author.Needs.{needs}
 use mathlib.Core.Path.{sym}
 use lib.Seq.{length-take-le}
-use Rattle.scripts.proofs.input.read_some.Statement.{statement}
-use Rattle.scripts.proofs.input.read_some.Tie as tie
+use Rattle.script_io.proofs.input.read_some.Statement.{statement}
+use Rattle.script_io.proofs.input.read_some.Tie as tie
 
 least-requires : tie.Need-least-requires
 least-requires c κs = search needs

@@ -1,7 +1,7 @@
 use borrow.Author.Needs.{needs}
 use native.Mathlib.Omega.{arith}
-use Rattle.scripts.proofs.input.skip.Statement.{statement}
-use Rattle.scripts.proofs.input.skip.Tie as tie
+use Rattle.script_io.proofs.input.skip.Statement.{statement}
+use Rattle.script_io.proofs.input.skip.Tie as tie
 
 abbrev Inv-loop : tie.InvT-loop
 Inv-loop left₀ n more₀ left more = Unit {0}
