@@ -1,14 +1,14 @@
 // Calls on a loaded job, one after another.
-use script_io::input::read_number;
-use script_io::output::print;
-use script_io::output::print_state;
-use script_io::questions::ask_check;
-use script_io::questions::ask_unit_free;
 use allocator::Assignment;
 use call_lists::lists::carry_out_list;
 use job::JobHeader;
 use job::USES;
 use lent::from;
+use script_io::input::read_number;
+use script_io::output::print;
+use script_io::output::print_state;
+use script_io::questions::ask_check;
+use script_io::questions::ask_unit_free;
 use transcript::answers;
 
 // How many bytes each argument of a call takes: the place counts the arguments from 0. A check's segments come after its arguments.

@@ -1,16 +1,16 @@
 // A whole script: its length, its job, its calls.
+use crate::making::make_calls;
+use crate::making::print_bad;
+use calls::loads::load;
+use lent::part8;
+use loader::load::JobLoaded;
+use records::first_records;
 use script_io::input::least;
 use script_io::input::less;
 use script_io::input::read_number;
 use script_io::input::read_some;
 use script_io::input::skip;
-use crate::making::make_calls;
-use crate::making::print_bad;
 use script_io::output::print;
-use calls::loads::load;
-use lent::part8;
-use loader::load::JobLoaded;
-use records::first_records;
 use transcript::answers;
 
 // Reads a job of `length` bytes: the first 32,769 are kept, one more than a job may have, and the others are read and forgotten. Answers whether
