@@ -51,14 +51,6 @@ plain-bits w p h =
     ltb-false 0x7F80_0000 (toBits binary32 w)
     (sym (nan-bits (toBits binary32 w) (below-sign w p h)) ∙ nanBits-is binary32 (toBits binary32 w) ∙ ap isNan (ofBits-toBits binary32 w h) ∙ plain-number w p)
 
--- a weight does not differ from itself
-itself : (w : Float) → Plain w → ne w w ≡ false
-itself w p = go (ne w w) refl
-  where
-    go : (t : Bool) → ne w w ≡ t → t ≡ false
-    go true e = absurd (subst Plain (differs-from-itself w (subst T (sym e) tt)) p)
-    go false e = refl
-
 -- what is read from a weight's bits is the weight
 pub weight-back : (w : Float) → fits binary32 w ≡ true → (b : ℕ) → b ≡ toBits binary32 w → Plain w → weightIn b ≡ w
 weight-back w f b e p =
