@@ -44,27 +44,27 @@ fn or_short(size: usize, limit: usize, other: bool) -> bool
 
 // Whether one of the sizes lent to a call is below its limit. They come in the limits' order, and are tested from the last.
 pub fn short_buffers(
-    job64: usize,
-    job32: usize,
-    job16: usize,
-    job8: usize,
-    weights: usize,
+    j64: usize,
+    j32: usize,
+    j16: usize,
+    j8: usize,
+    jf: usize,
     ends: usize,
     rests: usize,
     queue: usize,
     last: usize,
 ) -> bool
-    ensures { λ r. ⌜ r ≡ shortBuffer stageLimits (job64 ∷ job32 ∷ job16 ∷ job8 ∷ weights ∷ ends ∷ rests ∷ queue ∷ last ∷ []) ⌝ }
+    ensures { λ r. ⌜ r ≡ shortBuffer stageLimits (j64 ∷ j32 ∷ j16 ∷ j8 ∷ jf ∷ ends ∷ rests ∷ queue ∷ last ∷ []) ⌝ }
 {
     let short = or_short(last, 512, false);
     let short = or_short(queue, 1024, short);
     let short = or_short(rests, 2560, short);
     let short = or_short(ends, 2560, short);
-    let short = or_short(weights, 1536, short);
-    let short = or_short(job8, 2560, short);
-    let short = or_short(job16, 2067, short);
-    let short = or_short(job32, 1536, short);
-    or_short(job64, 576, short)
+    let short = or_short(jf, 1536, short);
+    let short = or_short(j8, 2560, short);
+    let short = or_short(j16, 2067, short);
+    let short = or_short(j32, 1536, short);
+    or_short(j64, 576, short)
 }
 
 // Whether the number k is in the set and has a hint that names the register.
@@ -115,8 +115,8 @@ fn is_named(
 }
 
 // Test 8 of a placement: no such number, no such register, or one that v may not have.
-pub fn is_unknown(virt_regs: u16, regs: u8, v: u16, reg: u8, job16: &[u16], job8: &[u8]) -> bool
-    ensures { λ r. ⌜ r ≡ unknownIn «virt_regs» regs v reg (namedTo (slices [] [] (now (job16 .entry)) (now (job8 .entry)) []) «virt_regs» v reg) ⌝ }
+pub fn is_unknown(virt_regs: u16, regs: u8, v: u16, reg: u8, j16: &[u16], j8: &[u8]) -> bool
+    ensures { λ r. ⌜ r ≡ unknownIn «virt_regs» regs v reg (namedTo (slices [] [] (now (j16 .entry)) (now (j8 .entry)) []) «virt_regs» v reg) ⌝ }
 {
     if virt_regs <= v {
         return true;
@@ -128,12 +128,12 @@ pub fn is_unknown(virt_regs: u16, regs: u8, v: u16, reg: u8, job16: &[u16], job8
         virt_regs,
         v,
         reg,
-        job16,
-        job8,
-        from8(job8, CLASSES),
-        from16(job16, SETS),
-        from16(job16, HINT_STARTS),
-        from8(job8, HINT_REGS),
+        j16,
+        j8,
+        from8(j8, CLASSES),
+        from16(j16, SETS),
+        from16(j16, HINT_STARTS),
+        from8(j8, HINT_REGS),
     )
 }
 
@@ -141,24 +141,24 @@ pub fn is_unknown(virt_regs: u16, regs: u8, v: u16, reg: u8, job16: &[u16], job8
 pub fn is_clear_at(
     v: u16,
     reg: u8,
-    job64: &[u64],
-    job32: &[u32],
-    job16: &[u16],
+    j64: &[u64],
+    j32: &[u32],
+    j16: &[u16],
     ends: &[u64],
     rests: &[u64],
 ) -> bool
-    ensures { λ r. ⌜ r ≡ clearTo (slices (now (job64 .entry)) (now (job32 .entry)) (now (job16 .entry)) [] []) (now (ends .entry)) (now (rests .entry)) v reg ⌝ }
+    ensures { λ r. ⌜ r ≡ clearTo (slices (now (j64 .entry)) (now (j32 .entry)) (now (j16 .entry)) [] []) (now (ends .entry)) (now (rests .entry)) v reg ⌝ }
 {
-    let units = at(job64, reg as usize);
-    let starts = from16(job16, SEGMENT_STARTS);
+    let units = at(j64, reg as usize);
+    let starts = from16(j16, SEGMENT_STARTS);
     is_clear(
         units,
         ends,
         rests,
-        from(job64, USES),
-        of32(starts, v, job32),
-        of32(starts, v, from32(job32, TOS)),
-        of16(starts, v, from16(job16, VALUES)),
+        from(j64, USES),
+        of32(starts, v, j32),
+        of32(starts, v, from32(j32, TOS)),
+        of16(starts, v, from16(j16, VALUES)),
     )
 }
 
@@ -188,19 +188,19 @@ pub fn place_refusal(
     v: u16,
     reg: u8,
     weight: u32,
-    job64: &[u64],
-    job32: &[u32],
-    job16: &[u16],
-    job8: &[u8],
+    j64: &[u64],
+    j32: &[u32],
+    j16: &[u16],
+    j8: &[u8],
     ends: &[u64],
     rests: &[u64],
 ) -> u64
-    ensures { λ r. ⌜ r ≡ numberOf (refusal (placeTests short (unknownIn «virt_regs» regs v reg (namedTo (slices [] [] (now (job16 .entry)) (now (job8 .entry)) []) «virt_regs» v reg)) weight a (clearTo (slices (now (job64 .entry)) (now (job32 .entry)) (now (job16 .entry)) [] []) (now (ends .entry)) (now (rests .entry)) v reg))) ⌝ }
+    ensures { λ r. ⌜ r ≡ numberOf (refusal (placeTests short (unknownIn «virt_regs» regs v reg (namedTo (slices [] [] (now (j16 .entry)) (now (j8 .entry)) []) «virt_regs» v reg)) weight a (clearTo (slices (now (j64 .entry)) (now (j32 .entry)) (now (j16 .entry)) [] []) (now (ends .entry)) (now (rests .entry)) v reg))) ⌝ }
 {
     if short {
         return 15;
     }
-    if is_unknown(virt_regs, regs, v, reg, job16, job8) {
+    if is_unknown(virt_regs, regs, v, reg, j16, j8) {
         return 8;
     }
     if 0x7F80_0000 <= weight {
@@ -209,7 +209,7 @@ pub fn place_refusal(
     if !is_free(a) {
         return 13;
     }
-    if !is_clear_at(v, reg, job64, job32, job16, ends, rests) {
+    if !is_clear_at(v, reg, j64, j32, j16, ends, rests) {
         return 14;
     }
     0

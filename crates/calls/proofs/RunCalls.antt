@@ -17,17 +17,17 @@ use Rattle.calls.specs.Calling.{sizesOf, RunCalled}
 -- the lists that the code takes from the slices are those of the job
 pub lists-taken :
     (B : JobSlices) {us kinds sets sizes hs hr ss ts vs : List ℕ} {hw : List Float}
-    → us ≡ drop 64 (B .job64)
-    → kinds ≡ drop 1024 (B .job8)
-    → sets ≡ drop 17 (B .job16)
-    → sizes ≡ drop 1024 (B .job32)
-    → hs ≡ drop 1041 (B .job16)
-    → hr ≡ drop 1536 (B .job8)
-    → hw ≡ drop 512 (B .weights)
-    → ss ≡ drop 1554 (B .job16)
-    → ts ≡ drop 512 (B .job32)
-    → vs ≡ drop 529 (B .job16)
-    → lentJob (B .job64) (B .job16) (B .job8) us kinds sets (B .weights) sizes hs hr hw ss (B .job32) ts vs ≡ listsIn B
+    → us ≡ drop 64 (B .j64)
+    → kinds ≡ drop 1024 (B .j8)
+    → sets ≡ drop 17 (B .j16)
+    → sizes ≡ drop 1024 (B .j32)
+    → hs ≡ drop 1041 (B .j16)
+    → hr ≡ drop 1536 (B .j8)
+    → hw ≡ drop 512 (B .jf)
+    → ss ≡ drop 1554 (B .j16)
+    → ts ≡ drop 512 (B .j32)
+    → vs ≡ drop 529 (B .j16)
+    → lentJob (B .j64) (B .j16) (B .j8) us kinds sets (B .jf) sizes hs hr hw ss (B .j32) ts vs ≡ listsIn B
 lists-taken B a b c d e f g h i k = rw (a, b, c, d, e, f, g, h, i, k)
 
 module _ (B : JobSlices) (budget : ℕ) (S : StateBuffers) (rs : List Assignment) where

@@ -175,31 +175,31 @@ module _ (j : Job) (p : Premises j) where
   unfolding later jobSlices
   laid-job B S =
       let b = jobBuffers j in
-      let t16 = drop 2067 (B .job16) in
-      let t8 = drop 2560 (B .job8) in
-      let t32 = drop 1536 (B .job32) in
+      let t16 = drop 2067 (B .j16) in
+      let t8 = drop 2560 (B .j8) in
+      let t32 = drop 1536 (B .j32) in
       let n529 : length (b .classStarts ++ b .valueSets) ≡ 529 = both-long (b .classStarts) (b .valueSets) starts-long sets-long refl in
       let n1041 : length ((b .classStarts ++ b .valueSets) ++ b .values) ≡ 1041 = both-long (b .classStarts ++ b .valueSets) (b .values) n529 values-long refl in
       let n1554 : length (((b .classStarts ++ b .valueSets) ++ b .values) ++ b .hintStarts) ≡ 1554 = both-long ((b .classStarts ++ b .valueSets) ++ b .values) (b .hintStarts) n1041 hints-long refl in
       record {
         reads =
             record {
-              regs = (b .fixedUses ++ drop 576 (B .job64), simp append-assoc);
+              regs = (b .fixedUses ++ drop 576 (B .j64), simp append-assoc);
               classStarts = (b .valueSets ++ (b .values ++ (b .hintStarts ++ (b .segmentStarts ++ t16))), simp append-assoc);
               classRegs = (b .classes ++ (b .hintRegs ++ t8), simp append-assoc);
-              fixedUses = behind (b .regs) (b .fixedUses) (drop 576 (B .job64)) (laterJob j B S .job64) regs-long (simp append-assoc);
-              classes = behind (b .classRegs) (b .classes) (b .hintRegs ++ t8) (laterJob j B S .job8) members-long (simp append-assoc);
-              valueSets = behind (b .classStarts) (b .valueSets) (b .values ++ (b .hintStarts ++ (b .segmentStarts ++ t16))) (laterJob j B S .job16) starts-long (simp append-assoc);
-              spillWeights = (b .hintWeights ++ drop 1536 (B .weights), simp append-assoc);
-              hintStarts = behind ((b .classStarts ++ b .valueSets) ++ b .values) (b .hintStarts) (b .segmentStarts ++ t16) (laterJob j B S .job16) n1041 (simp append-assoc);
-              hintRegs = behind (b .classRegs ++ b .classes) (b .hintRegs) t8 (laterJob j B S .job8) (both-long (b .classRegs) (b .classes) members-long classes-long refl) (simp append-assoc);
-              hintWeights = behind (b .spillWeights) (b .hintWeights) (drop 1536 (B .weights)) (laterJob j B S .weights) spills-long (simp append-assoc);
-              segmentStarts = behind (((b .classStarts ++ b .valueSets) ++ b .values) ++ b .hintStarts) (b .segmentStarts) t16 (laterJob j B S .job16) n1554 (simp append-assoc);
+              fixedUses = behind (b .regs) (b .fixedUses) (drop 576 (B .j64)) (laterJob j B S .j64) regs-long (simp append-assoc);
+              classes = behind (b .classRegs) (b .classes) (b .hintRegs ++ t8) (laterJob j B S .j8) members-long (simp append-assoc);
+              valueSets = behind (b .classStarts) (b .valueSets) (b .values ++ (b .hintStarts ++ (b .segmentStarts ++ t16))) (laterJob j B S .j16) starts-long (simp append-assoc);
+              spillWeights = (b .hintWeights ++ drop 1536 (B .jf), simp append-assoc);
+              hintStarts = behind ((b .classStarts ++ b .valueSets) ++ b .values) (b .hintStarts) (b .segmentStarts ++ t16) (laterJob j B S .j16) n1041 (simp append-assoc);
+              hintRegs = behind (b .classRegs ++ b .classes) (b .hintRegs) t8 (laterJob j B S .j8) (both-long (b .classRegs) (b .classes) members-long classes-long refl) (simp append-assoc);
+              hintWeights = behind (b .spillWeights) (b .hintWeights) (drop 1536 (B .jf)) (laterJob j B S .jf) spills-long (simp append-assoc);
+              segmentStarts = behind (((b .classStarts ++ b .valueSets) ++ b .values) ++ b .hintStarts) (b .segmentStarts) t16 (laterJob j B S .j16) n1554 (simp append-assoc);
               froms = (b .tos ++ (b .sizes ++ t32), simp append-assoc);
-              tos = behind (b .froms) (b .tos) (b .sizes ++ t32) (laterJob j B S .job32) froms-long (simp append-assoc);
-              values = behind (b .classStarts ++ b .valueSets) (b .values) (b .hintStarts ++ (b .segmentStarts ++ t16)) (laterJob j B S .job16) n529 (simp append-assoc);
+              tos = behind (b .froms) (b .tos) (b .sizes ++ t32) (laterJob j B S .j32) froms-long (simp append-assoc);
+              values = behind (b .classStarts ++ b .valueSets) (b .values) (b .hintStarts ++ (b .segmentStarts ++ t16)) (laterJob j B S .j16) n529 (simp append-assoc);
             };
-        sizes = behind (b .froms ++ b .tos) (b .sizes) t32 (laterJob j B S .job32) (both-long (b .froms) (b .tos) froms-long tos-long refl) (simp append-assoc);
+        sizes = behind (b .froms ++ b .tos) (b .sizes) t32 (laterJob j B S .j32) (both-long (b .froms) (b .tos) froms-long tos-long refl) (simp append-assoc);
       }
 
 -- ---- loading
@@ -246,7 +246,7 @@ module _ (bytes : List ℕ) (B : JobSlices) (S : StateBuffers) where
     filled-state :
         (j : Job) → Premises j → (n : ℕ) → n ≡ length (j .virtRegs) → lent B′ ends′ rests′ ≡ later j below
         → (queue′ last′ : List ℕ)
-        → queue′ ≡ filled (firstWord n (drop 1041 (B′ .job16)) (drop 1024 (B′ .job32))) (S .queue)
+        → queue′ ≡ filled (firstWord n (drop 1041 (B′ .j16)) (drop 1024 (B′ .j32))) (S .queue)
         → last′ ≡ sets (S .last) 0 (replicate (512 - 0) 0)
         → lentState ends′ rests′ queue′ last′ ≡ laterState j S
     unfolding later laterState freshState
@@ -262,14 +262,14 @@ module _ (bytes : List ℕ) (B : JobSlices) (S : StateBuffers) where
         laid : JobStands j (listsIn B′)
         laid = subst (λ (x : JobSlices). JobStands j (listsIn x)) (sym (ap (λ (b : Lent). b .job) p)) (laid-job j p′ B S)
 
-        here : take 513 (drop 1041 (B′ .job16)) ≡ jobBuffers j .hintStarts
-        here = begins-take 513 (jobBuffers j .hintStarts) (drop 1041 (B′ .job16)) (hints-long j p′) (laid .reads .hintStarts)
+        here : take 513 (drop 1041 (B′ .j16)) ≡ jobBuffers j .hintStarts
+        here = begins-take 513 (jobBuffers j .hintStarts) (drop 1041 (B′ .j16)) (hints-long j p′) (laid .reads .hintStarts)
 
-        there : take 512 (drop 1024 (B′ .job32)) ≡ jobBuffers j .sizes
-        there = begins-take 512 (jobBuffers j .sizes) (drop 1024 (B′ .job32)) (sizes-long j p′) (laid .sizes)
+        there : take 512 (drop 1024 (B′ .j32)) ≡ jobBuffers j .sizes
+        there = begins-take 512 (jobBuffers j .sizes) (drop 1024 (B′ .j32)) (sizes-long j p′) (laid .sizes)
 
         queue-is : queue′ ≡ queueWords j (freshState j) ++ drop 1024 (S .queue)
-        queue-is = pq ∙ ap (λ (m : ℕ). filled (firstWord m (drop 1041 (B′ .job16)) (drop 1024 (B′ .job32))) (S .queue)) e ∙ fresh-tournament j few (drop 1041 (B′ .job16)) (drop 1024 (B′ .job32)) here there (S .queue) roomy
+        queue-is = pq ∙ ap (λ (m : ℕ). filled (firstWord m (drop 1041 (B′ .j16)) (drop 1024 (B′ .j32))) (S .queue)) e ∙ fresh-tournament j few (drop 1041 (B′ .j16)) (drop 1024 (B′ .j32)) here there (S .queue) roomy
 
         last-is : last′ ≡ lastWords (freshState j) ++ drop 512 (S .last)
         last-is = pl ∙ sets-eq (replicate 512 0) (S .last) 0 (omega (arith, roomy′, length-replicate {A = ℕ} 512 0)) ∙ ap (λ (l : List ℕ). l ++ drop 512 (S .last)) (sym (no-last j))
@@ -283,7 +283,7 @@ module _ (bytes : List ℕ) (B : JobSlices) (S : StateBuffers) where
         → (h : JobHeader)
         → r ≡ Is h
         → (queue′ last′ : List ℕ)
-        → queue′ ≡ filled (firstWord (h .«virt_regs») (drop 1041 (B′ .job16)) (drop 1024 (B′ .job32))) (S .queue)
+        → queue′ ≡ filled (firstWord (h .«virt_regs») (drop 1041 (B′ .j16)) (drop 1024 (B′ .j32))) (S .queue)
         → last′ ≡ sets (S .last) 0 (replicate (512 - 0) 0)
         → StageLoadDone bytes B S B′ (lentState ends′ rests′ queue′ last′) (Is h)
     accepted-load are-bytes h told queue′ last′ pq pl =

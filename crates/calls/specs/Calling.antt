@@ -44,11 +44,11 @@ valueNumber (ended e n) = n
 -- the sizes of what is lent, in the order of the limits
 abbrev pub sizesOf : JobSlices → StateBuffers → List ℕ
 sizesOf B S =
-    length (B .job64)
-    ∷ length (B .job32)
-    ∷ length (B .job16)
-    ∷ length (B .job8)
-    ∷ length (B .weights)
+    length (B .j64)
+    ∷ length (B .j32)
+    ∷ length (B .j16)
+    ∷ length (B .j8)
+    ∷ length (B .jf)
     ∷ length (S .ends)
     ∷ length (S .rests)
     ∷ length (S .queue)

@@ -15,17 +15,17 @@ use queue::init;
 // are the records.
 pub fn load(
     s: &[u8],
-    job64: &mut [u64],
-    job32: &mut [u32],
-    job16: &mut [u16],
-    job8: &mut [u8],
-    weights: &mut [f32],
+    j64: &mut [u64],
+    j32: &mut [u32],
+    j16: &mut [u16],
+    j8: &mut [u8],
+    jf: &mut [f32],
     ends: &mut [u64],
     rests: &mut [u64],
     queue: &mut [u64],
     last: &mut [u8],
 ) -> JobLoaded
-    ensures { λ r. ⌜ StageLoadDone (now (s .entry)) (slices (now (job64 .entry)) (now (job32 .entry)) (now (job16 .entry)) (now (job8 .entry)) (now (weights .entry))) (lentState (now (ends .entry)) (now (rests .entry)) (now (queue .entry)) (now (last .entry))) (slices (now (job64 .exit)) (now (job32 .exit)) (now (job16 .exit)) (now (job8 .exit)) (now (weights .exit))) (lentState (now (ends .exit)) (now (rests .exit)) (now (queue .exit)) (now (last .exit))) r ⌝ }
+    ensures { λ r. ⌜ StageLoadDone (now (s .entry)) (slices (now (j64 .entry)) (now (j32 .entry)) (now (j16 .entry)) (now (j8 .entry)) (now (jf .entry))) (lentState (now (ends .entry)) (now (rests .entry)) (now (queue .entry)) (now (last .entry))) (slices (now (j64 .exit)) (now (j32 .exit)) (now (j16 .exit)) (now (j8 .exit)) (now (jf .exit))) (lentState (now (ends .exit)) (now (rests .exit)) (now (queue .exit)) (now (last .exit))) r ⌝ }
 {
     if queue.len() < 1024 {
         return JobLoaded::Refused(15);
@@ -33,14 +33,14 @@ pub fn load(
     if last.len() < 512 {
         return JobLoaded::Refused(15);
     }
-    match loader::load::load(s, job64, job32, job16, job8, weights, ends, rests) {
+    match loader::load::load(s, j64, j32, j16, j8, jf, ends, rests) {
         JobLoaded::Refused(n) => JobLoaded::Refused(n),
         JobLoaded::Is(header) => {
             init(
                 queue,
                 header.virt_regs,
-                from16(job16, HINT_STARTS),
-                from32(job32, SIZES),
+                from16(j16, HINT_STARTS),
+                from32(j32, SIZES),
             );
             pad8(last, 0, 512);
             JobLoaded::Is(header)

@@ -70,7 +70,7 @@ SoFar s count start regs classes w h b f w′ h′ b′ f′ at hn gn i =
 
 pub virts-begun : (s : List ℕ) (count start regs classes : ℕ) (w h b : List ℕ) (f : List Float) → SoFar s count start regs classes w h b f w h b f start 0 0 0
 unfolding concatMap startsFrom in32 in16 in8 inWeights
-virts-begun s count start regs classes w h b f = ([], begin, refl, refl, omega arith, omega arith, record { job32 = refl; job16 = refl; job8 = refl; weights = refl })
+virts-begun s count start regs classes w h b f = ([], begin, refl, refl, omega arith, omega arith, record { j32 = refl; j16 = refl; j8 = refl; jf = refl })
 
 -- a field of one more
 module _ {B C : Type 0} (f : VirtReg → List B) (p : B → C) where
@@ -112,19 +112,19 @@ virts-more s count start regs classes at hn gn i k l next fs {w} {h} {b} {f} v l
       o .3,
       o .4,
       record {
-        job32 =
+        j32 =
             more-32 w _ _ _ (map (λ (y : ValueSegment). y .from) (x .segments)) (map (λ (y : ValueSegment). y .to) (x .segments)) (fs .size)
-            (simp length-map (v .3)) (simp length-map (v .3)) (simp length-map n) (omega (arith, o .4)) (omega (arith, o .4)) (rw (a .job32) at (o .6 .points)) (p .size)
+            (simp length-map (v .3)) (simp length-map (v .3)) (simp length-map n) (omega (arith, o .4)) (omega (arith, o .4)) (rw (a .j32) at (o .6 .points)) (p .size)
             ∙ rw (all-more (λ (v : VirtReg). v .segments) (λ (y : ValueSegment). y .from) vs x, all-more (λ (v : VirtReg). v .segments) (λ (y : ValueSegment). y .to) vs x, one-more (λ (v : VirtReg). v .size) vs x (o .2 .size));
-        job16 =
+        j16 =
             more-16 h _ _ _ _ (map (λ (y : ValueSegment). y .value) (x .segments)) (fs .«value_set») (hn + k) (gn + l)
-            (simp length-map (v .3)) (simp length-map n) (ends-length (λ (v : VirtReg). v .hints) vs ∙ n) (ends-length (λ (v : VirtReg). v .segments) vs ∙ n) (omega (arith, o .4)) (omega arith) (rw (a .job16) at (o .6 .values .is)) (p .valueSet) eh eg
+            (simp length-map (v .3)) (simp length-map n) (ends-length (λ (v : VirtReg). v .hints) vs ∙ n) (ends-length (λ (v : VirtReg). v .segments) vs ∙ n) (omega (arith, o .4)) (omega arith) (rw (a .j16) at (o .6 .values .is)) (p .valueSet) eh eg
             ∙ rw (one-more (λ (v : VirtReg). v .valueSet) vs x (o .2 .valueSet), all-more (λ (v : VirtReg). v .segments) (λ (y : ValueSegment). y .value) vs x, ends-more (λ (v : VirtReg). v .hints) vs x sh, ends-more (λ (v : VirtReg). v .segments) vs x sg);
-        job8 =
-            more-8 b _ _ (map (λ (y : Hint). y .reg) (x .hints)) (fs .class) (simp length-map (v .2)) (simp length-map n) (omega arith) (rw (a .job8) at (o .5 .regs .is)) (p .class)
+        j8 =
+            more-8 b _ _ (map (λ (y : Hint). y .reg) (x .hints)) (fs .class) (simp length-map (v .2)) (simp length-map n) (omega arith) (rw (a .j8) at (o .5 .regs .is)) (p .class)
             ∙ rw (one-more (λ (v : VirtReg). v .class) vs x (o .2 .class), all-more (λ (v : VirtReg). v .hints) (λ (y : Hint). y .reg) vs x);
-        weights =
-            more-weights f _ _ (map (λ (y : Hint). y .weight) (x .hints)) (fs .«spill_weight») (simp length-map (v .2)) (simp length-map n) (omega arith) (rw (a .weights) at (o .5 .weights .is)) (p .spillWeight)
+        jf =
+            more-weights f _ _ (map (λ (y : Hint). y .weight) (x .hints)) (fs .«spill_weight») (simp length-map (v .2)) (simp length-map n) (omega arith) (rw (a .jf) at (o .5 .jf .is)) (p .spillWeight)
             ∙ rw (one-more (λ (v : VirtReg). v .spillWeight) vs x (o .2 .spillWeight), all-more (λ (v : VirtReg). v .hints) (λ (y : Hint). y .weight) vs x);
       },
     )
@@ -133,19 +133,19 @@ virts-more s count start regs classes at hn gn i k l next fs {w} {h} {b} {f} v l
 module _ {w h b w′ h′ b′ : List ℕ} {f f′ : List Float} {vs : List VirtReg} (a : VirtsAt w h b f w′ h′ b′ f′ vs) where
   pub kept-32 : length w′ ≡ length w
   unfolding in32
-  kept-32 = ap length (a .job32) ∙ simp length-sets
+  kept-32 = ap length (a .j32) ∙ simp length-sets
 
   pub kept-16 : length h′ ≡ length h
   unfolding in16
-  kept-16 = ap length (a .job16) ∙ simp length-sets
+  kept-16 = ap length (a .j16) ∙ simp length-sets
 
   pub kept-8 : length b′ ≡ length b
   unfolding in8
-  kept-8 = ap length (a .job8) ∙ simp length-sets
+  kept-8 = ap length (a .j8) ∙ simp length-sets
 
   pub kept-weights : length f′ ≡ length f
   unfolding inWeights
-  kept-weights = ap length (a .weights) ∙ simp length-sets
+  kept-weights = ap length (a .jf) ∙ simp length-sets
 
 -- the table: its count, and then as many
 pub virts-table :

@@ -92,12 +92,12 @@ segmentEnds vs = drop 1 (startsFrom (λ (v : VirtReg). length (v .segments)) 0 v
 
 -- virtual registers, all of them
 pub record VirtsAt (w h b : List ℕ) (f : List Float) (w′ h′ b′ : List ℕ) (f′ : List Float) (vs : List VirtReg) : Type 0 where
-  pub job32 :
+  pub j32 :
       w′ ≡ in32 w (map (λ (x : ValueSegment). x .from) (segmentsOfAll vs)) (map (λ (x : ValueSegment). x .to) (segmentsOfAll vs)) (map (λ (v : VirtReg). v .size) vs)
-  pub job16 :
+  pub j16 :
       h′ ≡ in16 h (map (λ (v : VirtReg). v .valueSet) vs) (map (λ (x : ValueSegment). x .value) (segmentsOfAll vs)) (hintEnds vs) (segmentEnds vs)
-  pub job8 : b′ ≡ in8 b (map (λ (v : VirtReg). v .class) vs) (map (λ (x : Hint). x .reg) (hintsOfAll vs))
-  pub weights : f′ ≡ inWeights f (map (λ (v : VirtReg). v .spillWeight) vs) (map (λ (x : Hint). x .weight) (hintsOfAll vs))
+  pub j8 : b′ ≡ in8 b (map (λ (v : VirtReg). v .class) vs) (map (λ (x : Hint). x .reg) (hintsOfAll vs))
+  pub jf : f′ ≡ inWeights f (map (λ (v : VirtReg). v .spillWeight) vs) (map (λ (x : Hint). x .weight) (hintsOfAll vs))
 
 -- ---- the answers
 

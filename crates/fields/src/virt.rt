@@ -107,11 +107,11 @@ fn segments(
     start: usize,
     count: usize,
     g: usize,
-    job32: &mut [u32],
-    job16: &mut [u16],
+    j32: &mut [u32],
+    j16: &mut [u16],
 ) -> Next
     requires { ⌜ g + count ≤ 512 ⌝ }
-    ensures { λ r. ⌜ Outcome (now (s .entry)) (each segmentOf count [] (drop start (now (s .entry)))) r (SegmentsAt g (now (job32 .entry)) (now (job16 .entry)) (now (job32 .exit)) (now (job16 .exit))) ⌝ }
+    ensures { λ r. ⌜ Outcome (now (s .entry)) (each segmentOf count [] (drop start (now (s .entry)))) r (SegmentsAt g (now (j32 .entry)) (now (j16 .entry)) (now (j32 .exit)) (now (j16 .exit))) ⌝ }
 {
     let mut at = start;
     let mut past: u32 = 0;
@@ -122,9 +122,9 @@ fn segments(
                 return Next::Refused(n);
             }
             SegmentRead::Is(seg, next) => {
-                put32(job32, g + i, seg.from);
-                put32(job32, TOS + g + i, seg.to);
-                put16(job16, VALUES + g + i, seg.value);
+                put32(j32, g + i, seg.from);
+                put32(j32, TOS + g + i, seg.to);
+                put16(j16, VALUES + g + i, seg.value);
                 past = seg.to;
                 at = next;
             }
@@ -152,14 +152,14 @@ fn segment_count(s: &[u8], at: usize, earlier: u64) -> Number
 }
 
 // The segments: how many, and the position after them.
-fn segment_table(s: &[u8], at: usize, g: u64, job32: &mut [u32], job16: &mut [u16]) -> Number
+fn segment_table(s: &[u8], at: usize, g: u64, j32: &mut [u32], j16: &mut [u16]) -> Number
     requires { ⌜ g ≤ 512 ⌝ }
-    ensures { λ r. ⌜ Counted (now (s .entry)) (segmentsOf g (drop at (now (s .entry)))) length (512 - g) r (SegmentsAt g (now (job32 .entry)) (now (job16 .entry)) (now (job32 .exit)) (now (job16 .exit))) ⌝ }
+    ensures { λ r. ⌜ Counted (now (s .entry)) (segmentsOf g (drop at (now (s .entry)))) length (512 - g) r (SegmentsAt g (now (j32 .entry)) (now (j16 .entry)) (now (j32 .exit)) (now (j16 .exit))) ⌝ }
 {
     match segment_count(s, at, g) {
         Number::Refused(n) => Number::Refused(n),
         Number::Is(k, at1) => {
-            match segments(s, at1, k as usize, g as usize, job32, job16) {
+            match segments(s, at1, k as usize, g as usize, j32, j16) {
                 Next::Refused(n) => Number::Refused(n),
                 Next::At(next) => Number::Is(k, next),
             }
@@ -219,11 +219,11 @@ fn hints(
     count: usize,
     regs: u64,
     h: usize,
-    job8: &mut [u8],
-    weights: &mut [f32],
+    j8: &mut [u8],
+    jf: &mut [f32],
 ) -> Next
     requires { ⌜ h + count ≤ 1024 ⌝ }
-    ensures { λ r. ⌜ Outcome (now (s .entry)) (each (λ before. hintOf regs) count [] (drop start (now (s .entry)))) r (HintsAt h (now (job8 .entry)) (now (weights .entry)) (now (job8 .exit)) (now (weights .exit))) ⌝ }
+    ensures { λ r. ⌜ Outcome (now (s .entry)) (each (λ before. hintOf regs) count [] (drop start (now (s .entry)))) r (HintsAt h (now (j8 .entry)) (now (jf .entry)) (now (j8 .exit)) (now (jf .exit))) ⌝ }
 {
     let mut at = start;
     let mut i = 0;
@@ -233,8 +233,8 @@ fn hints(
                 return Next::Refused(n);
             }
             HintRead::Is(x, next) => {
-                put8(job8, HINT_REGS + h + i, x.reg);
-                put_float(weights, HINT_WEIGHTS + h + i, x.weight);
+                put8(j8, HINT_REGS + h + i, x.reg);
+                put_float(jf, HINT_WEIGHTS + h + i, x.weight);
                 at = next;
             }
         }
@@ -250,17 +250,17 @@ fn hint_table(
     m: u8,
     regs: u64,
     h: u64,
-    job8: &mut [u8],
-    weights: &mut [f32],
+    j8: &mut [u8],
+    jf: &mut [f32],
 ) -> Number
     requires { ⌜ h ≤ 1024 ⌝ }
-    ensures { λ r. ⌜ Counted (now (s .entry)) (ifBit (eqb (m / 16 % 2) 1) [] (hintsOf regs h) (drop at (now (s .entry)))) length (1024 - h) r (HintsAt h (now (job8 .entry)) (now (weights .entry)) (now (job8 .exit)) (now (weights .exit))) ⌝ }
+    ensures { λ r. ⌜ Counted (now (s .entry)) (ifBit (eqb (m / 16 % 2) 1) [] (hintsOf regs h) (drop at (now (s .entry)))) length (1024 - h) r (HintsAt h (now (j8 .entry)) (now (jf .entry)) (now (j8 .exit)) (now (jf .exit))) ⌝ }
 {
     if m / 16 % 2 == 1 {
         match hint_count(s, at, h) {
             Number::Refused(n) => Number::Refused(n),
             Number::Is(k, at1) => {
-                match hints(s, at1, k as usize, regs, h as usize, job8, weights) {
+                match hints(s, at1, k as usize, regs, h as usize, j8, jf) {
                     Next::Refused(n) => Number::Refused(n),
                     Next::At(next) => Number::Is(k, next),
                 }
@@ -369,19 +369,19 @@ fn virt_reg(
     n: u16,
     h: u64,
     g: u64,
-    job32: &mut [u32],
-    job16: &mut [u16],
-    job8: &mut [u8],
-    weights: &mut [f32],
+    j32: &mut [u32],
+    j16: &mut [u16],
+    j8: &mut [u8],
+    jf: &mut [f32],
 ) -> VirtRead
     requires { ⌜ (classes ≤ 255) × (h ≤ 1024) × (g ≤ 512) ⌝ }
-    ensures { λ r. ⌜ VirtOut (now (s .entry)) (virtRegAt regs classes n h g (drop at (now (s .entry)))) h g r (HintsAt h (now (job8 .entry)) (now (weights .entry)) (now (job8 .exit)) (now (weights .exit))) (SegmentsAt g (now (job32 .entry)) (now (job16 .entry)) (now (job32 .exit)) (now (job16 .exit))) ⌝ }
+    ensures { λ r. ⌜ VirtOut (now (s .entry)) (virtRegAt regs classes n h g (drop at (now (s .entry)))) h g r (HintsAt h (now (j8 .entry)) (now (jf .entry)) (now (j8 .exit)) (now (jf .exit))) (SegmentsAt g (now (j32 .entry)) (now (j16 .entry)) (now (j32 .exit)) (now (j16 .exit))) ⌝ }
 {
     match virt_fields(s, at, classes, n) {
         FieldsRead::Refused(k) => VirtRead::Refused(k),
-        FieldsRead::Is(f, at1) => match hint_table(s, at1, f.map, regs, h, job8, weights) {
+        FieldsRead::Is(f, at1) => match hint_table(s, at1, f.map, regs, h, j8, jf) {
             Number::Refused(k) => VirtRead::Refused(k),
-            Number::Is(hn, at2) => match segment_table(s, at2, g, job32, job16) {
+            Number::Is(hn, at2) => match segment_table(s, at2, g, j32, j16) {
                 Number::Refused(k) => VirtRead::Refused(k),
                 Number::Is(gn, next) => VirtRead::Is(f, hn, gn, next),
             },
@@ -393,18 +393,18 @@ fn virt_reg(
 fn put_fields(
     f: VirtRegFields,
     i: usize,
-    job32: &mut [u32],
-    job16: &mut [u16],
-    job8: &mut [u8],
-    weights: &mut [f32],
+    j32: &mut [u32],
+    j16: &mut [u16],
+    j8: &mut [u8],
+    jf: &mut [f32],
 )
     requires { ⌜ i < 65536 ⌝ }
-    ensures { λ r. ⌜ FieldsAt f i (now (job32 .entry)) (now (job16 .entry)) (now (job8 .entry)) (now (weights .entry)) (now (job32 .exit)) (now (job16 .exit)) (now (job8 .exit)) (now (weights .exit)) ⌝ }
+    ensures { λ r. ⌜ FieldsAt f i (now (j32 .entry)) (now (j16 .entry)) (now (j8 .entry)) (now (jf .entry)) (now (j32 .exit)) (now (j16 .exit)) (now (j8 .exit)) (now (jf .exit)) ⌝ }
 {
-    put32(job32, SIZES + i, f.size);
-    put16(job16, SETS + i, f.value_set);
-    put8(job8, CLASSES + i, f.class);
-    put_float(weights, i, f.spill_weight);
+    put32(j32, SIZES + i, f.size);
+    put16(j16, SETS + i, f.value_set);
+    put8(j8, CLASSES + i, f.class);
+    put_float(jf, i, f.spill_weight);
 }
 
 // The virtual registers: their fields, where the hints and the segments of each end, the hints and the segments of all.
@@ -414,13 +414,13 @@ fn virt_regs(
     count: u16,
     regs: u8,
     classes: u8,
-    job32: &mut [u32],
-    job16: &mut [u16],
-    job8: &mut [u8],
-    weights: &mut [f32],
+    j32: &mut [u32],
+    j16: &mut [u16],
+    j8: &mut [u8],
+    jf: &mut [f32],
 ) -> VirtsRead
     requires { ⌜ count ≤ 512 ⌝ }
-    ensures { λ r. ⌜ VirtsOut (now (s .entry)) (each (virtRegAfter regs classes) count [] (drop start (now (s .entry)))) r (VirtsAt (now (job32 .entry)) (now (job16 .entry)) (now (job8 .entry)) (now (weights .entry)) (now (job32 .exit)) (now (job16 .exit)) (now (job8 .exit)) (now (weights .exit))) ⌝ }
+    ensures { λ r. ⌜ VirtsOut (now (s .entry)) (each (virtRegAfter regs classes) count [] (drop start (now (s .entry)))) r (VirtsAt (now (j32 .entry)) (now (j16 .entry)) (now (j8 .entry)) (now (jf .entry)) (now (j32 .exit)) (now (j16 .exit)) (now (j8 .exit)) (now (jf .exit))) ⌝ }
 {
     let mut at = start;
     let mut h: u64 = 0;
@@ -435,20 +435,20 @@ fn virt_regs(
             i as u16,
             h,
             g,
-            job32,
-            job16,
-            job8,
-            weights,
+            j32,
+            j16,
+            j8,
+            jf,
         ) {
             VirtRead::Refused(n) => {
                 return VirtsRead::Refused(n);
             }
             VirtRead::Is(f, hn, gn, next) => {
-                put_fields(f, i, job32, job16, job8, weights);
+                put_fields(f, i, j32, j16, j8, jf);
                 h = h + hn;
                 g = g + gn;
-                put16(job16, HINT_STARTS + 1 + i, h as u16);
-                put16(job16, SEGMENT_STARTS + 1 + i, g as u16);
+                put16(j16, HINT_STARTS + 1 + i, h as u16);
+                put16(j16, SEGMENT_STARTS + 1 + i, g as u16);
                 at = next;
             }
         }
@@ -470,26 +470,16 @@ pub fn virt_table(
     stands: bool,
     regs: u8,
     classes: u8,
-    job32: &mut [u32],
-    job16: &mut [u16],
-    job8: &mut [u8],
-    weights: &mut [f32],
+    j32: &mut [u32],
+    j16: &mut [u16],
+    j8: &mut [u8],
+    jf: &mut [f32],
 ) -> VirtTable
-    ensures { λ r. ⌜ TableOut (now (s .entry)) (tableOf stands 2 512 (virtRegAfter regs classes) (drop at (now (s .entry)))) r (VirtsAt (now (job32 .entry)) (now (job16 .entry)) (now (job8 .entry)) (now (weights .entry)) (now (job32 .exit)) (now (job16 .exit)) (now (job8 .exit)) (now (weights .exit))) ⌝ }
+    ensures { λ r. ⌜ TableOut (now (s .entry)) (tableOf stands 2 512 (virtRegAfter regs classes) (drop at (now (s .entry)))) r (VirtsAt (now (j32 .entry)) (now (j16 .entry)) (now (j8 .entry)) (now (jf .entry)) (now (j32 .exit)) (now (j16 .exit)) (now (j8 .exit)) (now (jf .exit))) ⌝ }
 {
     match count16(s, at, stands, 512) {
         Number::Refused(n) => VirtTable::Refused(n),
-        Number::Is(k, at1) => match virt_regs(
-            s,
-            at1,
-            k as u16,
-            regs,
-            classes,
-            job32,
-            job16,
-            job8,
-            weights,
-        ) {
+        Number::Is(k, at1) => match virt_regs(s, at1, k as u16, regs, classes, j32, j16, j8, jf) {
             VirtsRead::Refused(n) => VirtTable::Refused(n),
             VirtsRead::Is(h, g, next) => VirtTable::Is(k as u16, h, g, next),
         },

@@ -71,17 +71,17 @@ jobBuffers j =
 
 -- ---- the slices
 
--- layout: what is lent for a job, one slice for each kind of number: 64, 32, 16 and 8 bits, and weights
+-- layout: what is lent for a job, one slice for each kind of number: 64, 32, 16 and 8 bits, and `jf` for weights
 pub record JobSlices : Type 0 where
-  pub job64 : List ℕ
-  pub job32 : List ℕ
-  pub job16 : List ℕ
-  pub job8 : List ℕ
-  pub weights : List Float
+  pub j64 : List ℕ
+  pub j32 : List ℕ
+  pub j16 : List ℕ
+  pub j8 : List ℕ
+  pub jf : List Float
 
 -- layout: the five of them
 abbrev pub slices : List ℕ → List ℕ → List ℕ → List ℕ → List Float → JobSlices
-slices job64 job32 job16 job8 weights = record { job64 = job64; job32 = job32; job16 = job16; job8 = job8; weights = weights }
+slices j64 j32 j16 j8 jf = record { j64 = j64; j32 = j32; j16 = j16; j8 = j8; jf = jf }
 
 -- layout: 01, "Limits": the slices' sizes, in that order: those of their lists together
 abbrev pub jobLimits : List ℕ
@@ -96,32 +96,32 @@ unfoldable pub jobSlices : Job → JobSlices
 jobSlices j =
     let b = jobBuffers j in
     record {
-      job64 = b .regs ++ b .fixedUses;
-      job32 = b .froms ++ b .tos ++ b .sizes;
-      job16 = b .classStarts ++ b .valueSets ++ b .values ++ b .hintStarts ++ b .segmentStarts;
-      job8 = b .classRegs ++ b .classes ++ b .hintRegs;
-      weights = b .spillWeights ++ b .hintWeights;
+      j64 = b .regs ++ b .fixedUses;
+      j32 = b .froms ++ b .tos ++ b .sizes;
+      j16 = b .classStarts ++ b .valueSets ++ b .values ++ b .hintStarts ++ b .segmentStarts;
+      j8 = b .classRegs ++ b .classes ++ b .hintRegs;
+      jf = b .spillWeights ++ b .hintWeights;
     }
 
 -- layout: where each list begins, with all that stands behind it
 abbrev pub listsIn : JobSlices → JobBuffers
 listsIn B =
     record {
-      regs = B .job64;
-      classStarts = B .job16;
-      classRegs = B .job8;
-      fixedUses = drop 64 (B .job64);
-      classes = drop 1024 (B .job8);
-      valueSets = drop 17 (B .job16);
-      spillWeights = B .weights;
-      sizes = drop 1024 (B .job32);
-      hintStarts = drop 1041 (B .job16);
-      hintRegs = drop 1536 (B .job8);
-      hintWeights = drop 512 (B .weights);
-      segmentStarts = drop 1554 (B .job16);
-      froms = B .job32;
-      tos = drop 512 (B .job32);
-      values = drop 529 (B .job16);
+      regs = B .j64;
+      classStarts = B .j16;
+      classRegs = B .j8;
+      fixedUses = drop 64 (B .j64);
+      classes = drop 1024 (B .j8);
+      valueSets = drop 17 (B .j16);
+      spillWeights = B .jf;
+      sizes = drop 1024 (B .j32);
+      hintStarts = drop 1041 (B .j16);
+      hintRegs = drop 1536 (B .j8);
+      hintWeights = drop 512 (B .jf);
+      segmentStarts = drop 1554 (B .j16);
+      froms = B .j32;
+      tos = drop 512 (B .j32);
+      values = drop 529 (B .j16);
     }
 
 -- ---- what goes by value

@@ -39,16 +39,16 @@ pub struct JobHeader {
     pub budget: u32,
 }
 
-// Where the lists of a loaded job begin in the slices that are lent for it, one slice for each kind of number (specs/Layout.antt). Of 64-bit numbers:
-// the registers' maps at place 0, the fixed uses.
+// Where the lists of a loaded job begin in the slices that are lent for it, one slice for each kind of number (specs/Layout.antt): j64, j32, j16 and j8
+// for numbers of so many bits, jf for weights. In j64: the registers' maps at place 0, the fixed uses.
 pub const USES: usize = 64;
 
-// Of 32-bit numbers: where segments start at place 0, where they end, the sizes.
+// In j32: where segments start at place 0, where they end, the sizes.
 pub const TOS: usize = 512;
 
 pub const SIZES: usize = 1024;
 
-// Of 16-bit numbers: where the classes' registers begin at place 0, the sets, the segments' values, where hints and segments begin.
+// In j16: where the classes' registers begin at place 0, the sets, the segments' values, where hints and segments begin.
 pub const SETS: usize = 17;
 
 pub const VALUES: usize = 529;
@@ -57,10 +57,10 @@ pub const HINT_STARTS: usize = 1041;
 
 pub const SEGMENT_STARTS: usize = 1554;
 
-// Of bytes: the classes' registers at place 0, the classes, the hints' registers.
+// In j8: the classes' registers at place 0, the classes, the hints' registers.
 pub const CLASSES: usize = 1024;
 
 pub const HINT_REGS: usize = 1536;
 
-// Of weights: the spill weights at place 0, the hints' weights.
+// In jf: the spill weights at place 0, the hints' weights.
 pub const HINT_WEIGHTS: usize = 512;

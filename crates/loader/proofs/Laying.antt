@@ -105,11 +105,11 @@ unfolding shortBuffer
 long-enough n ns k ks e = (ltb-false k n (or-first (ltb k n) (shortBuffer ns ks) e), or-rest (ltb k n) (shortBuffer ns ks) e)
 
 pub record Room (b : Lent) : Type 0 where
-  pub job64 : 576 ≤ length (b .job .job64)
-  pub job32 : 1536 ≤ length (b .job .job32)
-  pub job16 : 2067 ≤ length (b .job .job16)
-  pub job8 : 2560 ≤ length (b .job .job8)
-  pub weights : 1536 ≤ length (b .job .weights)
+  pub j64 : 576 ≤ length (b .job .j64)
+  pub j32 : 1536 ≤ length (b .job .j32)
+  pub j16 : 2067 ≤ length (b .job .j16)
+  pub j8 : 2560 ≤ length (b .job .j8)
+  pub jf : 1536 ≤ length (b .job .jf)
   pub ends : maxEntries ≤ length (b .ends)
   pub rests : maxEntries ≤ length (b .rests)
 
@@ -122,7 +122,7 @@ room b e =
     let l4 = long-enough _ _ _ _ (l3 .1) in
     let l5 = long-enough _ _ _ _ (l4 .1) in
     let l6 = long-enough _ _ _ _ (l5 .1) in
-    record { job64 = l0 .0; job32 = l1 .0; job16 = l2 .0; job8 = l3 .0; weights = l4 .0; ends = l5 .0; rests = l6 .0 }
+    record { j64 = l0 .0; j32 = l1 .0; j16 = l2 .0; j8 = l3 .0; jf = l4 .0; ends = l5 .0; rests = l6 .0 }
 
 -- ---- every slice
 
@@ -136,50 +136,50 @@ module _ (j : Job) (p : Premises j) (b : Lent) (m : Room b) {B : JobSlices} (few
   fv : length (j .virtRegs) ≤ 512
   fv = omega (arith, p .few-numbers)
 
-  pub regs-laid : B .job64 ≡ padded 64 0 (j .regs) ++ drop 64 (b .job .job64)
-  regs-laid = a .regs ∙ laid-64 (b .job .job64) (j .regs) (omega (arith, p .few-regs)) (omega (arith, m .job64))
+  pub regs-laid : B .j64 ≡ padded 64 0 (j .regs) ++ drop 64 (b .job .j64)
+  regs-laid = a .regs ∙ laid-64 (b .job .j64) (j .regs) (omega (arith, p .few-regs)) (omega (arith, m .j64))
 
-  pub laid-all-32 : B .job32 ≡ jobSlices j .job32 ++ drop 1536 (b .job .job32)
+  pub laid-all-32 : B .j32 ≡ jobSlices j .j32 ++ drop 1536 (b .job .j32)
   unfolding jobSlices jobBuffers
   laid-all-32 =
-      a .virtRegs .job32 ∙ laid-32 (b .job .job32) _ _ _ (simp length-map fs) (simp length-map fs) (simp length-map fv) (m .job32) ∙ sym (simp append-assoc)
+      a .virtRegs .j32 ∙ laid-32 (b .job .j32) _ _ _ (simp length-map fs) (simp length-map fs) (simp length-map fv) (m .j32) ∙ sym (simp append-assoc)
 
-  pub laid-all-16 : B .job16 ≡ jobSlices j .job16 ++ drop 2067 (b .job .job16)
+  pub laid-all-16 : B .j16 ≡ jobSlices j .j16 ++ drop 2067 (b .job .j16)
   unfolding jobSlices jobBuffers
   laid-all-16 =
       let ends : (A : Type 0) (f : VirtReg → List A) → length (drop 1 (startsFrom (λ (v : VirtReg). length (f v)) 0 (j .virtRegs))) ≤ 512 = λ A f. simp length-drop (omega (arith, starts-length (λ (v : VirtReg). length (f v)) 0 (j .virtRegs), p .few-numbers)) in
-      a .virtRegs .job16
-      ∙ laid-16 (b .job .job16) (startsFrom length 0 (j .classes)) (map (λ (v : VirtReg). v .valueSet) (j .virtRegs)) (map (λ (x : ValueSegment). x .value) (segmentsOfAll (j .virtRegs))) (hintEnds (j .virtRegs)) (segmentEnds (j .virtRegs))
-      (omega (arith, p .few-classes, starts-length (length {A = ℕ}) 0 (j .classes))) (simp length-map fv) (simp length-map fs) (ends Hint (λ (v : VirtReg). v .hints)) (ends ValueSegment (λ (v : VirtReg). v .segments)) (m .job16)
+      a .virtRegs .j16
+      ∙ laid-16 (b .job .j16) (startsFrom length 0 (j .classes)) (map (λ (v : VirtReg). v .valueSet) (j .virtRegs)) (map (λ (x : ValueSegment). x .value) (segmentsOfAll (j .virtRegs))) (hintEnds (j .virtRegs)) (segmentEnds (j .virtRegs))
+      (omega (arith, p .few-classes, starts-length (length {A = ℕ}) 0 (j .classes))) (simp length-map fv) (simp length-map fs) (ends Hint (λ (v : VirtReg). v .hints)) (ends ValueSegment (λ (v : VirtReg). v .segments)) (m .j16)
       ∙ rw (starts-padded (λ (v : VirtReg). length (v .hints)) (j .virtRegs), starts-padded (λ (v : VirtReg). length (v .segments)) (j .virtRegs)) (sym (simp append-assoc))
 
-  pub laid-all-8 : B .job8 ≡ jobSlices j .job8 ++ drop 2560 (b .job .job8)
+  pub laid-all-8 : B .j8 ≡ jobSlices j .j8 ++ drop 2560 (b .job .j8)
   unfolding jobSlices jobBuffers
   laid-all-8 =
-      a .virtRegs .job8 ∙ laid-8 (b .job .job8) (allMembers (j .classes)) (map (λ (v : VirtReg). v .class) (j .virtRegs)) (map (λ (x : Hint). x .reg) (hintsOfAll (j .virtRegs))) few (simp length-map fv) (simp length-map fh) (m .job8) ∙ sym (simp append-assoc)
+      a .virtRegs .j8 ∙ laid-8 (b .job .j8) (allMembers (j .classes)) (map (λ (v : VirtReg). v .class) (j .virtRegs)) (map (λ (x : Hint). x .reg) (hintsOfAll (j .virtRegs))) few (simp length-map fv) (simp length-map fh) (m .j8) ∙ sym (simp append-assoc)
 
-  pub laid-all-weights : B .weights ≡ jobSlices j .weights ++ drop 1536 (b .job .weights)
+  pub laid-all-weights : B .jf ≡ jobSlices j .jf ++ drop 1536 (b .job .jf)
   unfolding jobSlices jobBuffers
   laid-all-weights =
-      a .virtRegs .weights ∙ laid-weights (b .job .weights) _ _ (simp length-map fv) (simp length-map fh) (m .weights) ∙ sym (simp append-assoc)
+      a .virtRegs .jf ∙ laid-weights (b .job .jf) _ _ (simp length-map fv) (simp length-map fh) (m .jf) ∙ sym (simp append-assoc)
 
   -- the fixed uses are put behind the registers' maps
   front-size : length (padded 64 0 (j .regs)) ≡ 64
   unfolding padded
   front-size = omega (arith, length-append (j .regs) (replicate (64 - length (j .regs)) 0), length-replicate {A = ℕ} (64 - length (j .regs)) 0, p .few-regs)
 
-  pub front-kept : (take 64 (B .job64) ≡ padded 64 0 (j .regs)) × (drop 64 (B .job64) ≡ drop 64 (b .job .job64))
+  pub front-kept : (take 64 (B .j64) ≡ padded 64 0 (j .regs)) × (drop 64 (B .j64) ≡ drop 64 (b .job .j64))
   front-kept = (
-    ap (take 64) regs-laid ∙ rw front-size at (take-append-seam (padded 64 0 (j .regs)) (drop 64 (b .job .job64))),
-    ap (drop 64) regs-laid ∙ rw front-size at (drop-append-seam (padded 64 0 (j .regs)) (drop 64 (b .job .job64))),
+    ap (take 64) regs-laid ∙ rw front-size at (take-append-seam (padded 64 0 (j .regs)) (drop 64 (b .job .j64))),
+    ap (drop 64) regs-laid ∙ rw front-size at (drop-append-seam (padded 64 0 (j .regs)) (drop 64 (b .job .j64))),
   )
 
   pub all-later :
       (W ends rests : List ℕ)
-      → In (j .fixed) (drop maxEntries (b .ends)) (drop maxEntries (b .rests)) (drop maxFixed (drop 64 (B .job64))) (lain ends rests W)
-      → lent (record { job64 = take 64 (B .job64) ++ W; job32 = B .job32; job16 = B .job16; job8 = B .job8; weights = B .weights }) ends rests ≡ later j b
+      → In (j .fixed) (drop maxEntries (b .ends)) (drop maxEntries (b .rests)) (drop maxFixed (drop 64 (B .j64))) (lain ends rests W)
+      → lent (record { j64 = take 64 (B .j64) ++ W; j32 = B .j32; j16 = B .j16; j8 = B .j8; jf = B .jf }) ends rests ≡ later j b
   unfolding later jobSlices jobBuffers
   all-later W ends rests i =
-      let u = i .lie .are ∙ ap (λ (l : List ℕ). useWords (j .fixed) ++ drop maxFixed l) (front-kept .1) ∙ ap (λ (l : List ℕ). useWords (j .fixed) ++ l) (drop-drop maxFixed 64 (b .job .job64)) in
-      let v = ap (λ (l : List ℕ). take 64 (B .job64) ++ l) u ∙ ap (λ (l : List ℕ). l ++ (useWords (j .fixed) ++ drop 576 (b .job .job64))) (front-kept .0) ∙ sym (append-assoc (padded 64 0 (j .regs)) (useWords (j .fixed)) (drop 576 (b .job .job64))) in
+      let u = i .lie .are ∙ ap (λ (l : List ℕ). useWords (j .fixed) ++ drop maxFixed l) (front-kept .1) ∙ ap (λ (l : List ℕ). useWords (j .fixed) ++ l) (drop-drop maxFixed 64 (b .job .j64)) in
+      let v = ap (λ (l : List ℕ). take 64 (B .j64) ++ l) u ∙ ap (λ (l : List ℕ). l ++ (useWords (j .fixed) ++ drop 576 (b .job .j64))) (front-kept .0) ∙ sym (append-assoc (padded 64 0 (j .regs)) (useWords (j .fixed)) (drop 576 (b .job .j64))) in
       rw (v, laid-all-32, laid-all-16, laid-all-8, laid-all-weights, i .stands .ends-are, i .stands .rests-are)

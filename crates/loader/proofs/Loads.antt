@@ -92,19 +92,19 @@ module _ (s : List ℕ) (b : Lent) {r : Bool} (q : r ≡ shortBuffer loadLimits 
       → FixedAt n f g u n′ f′ g′ u′ (j .fixed)
       → (512 ≤ length n) × (512 ≤ length f) × (512 ≤ length g) × (512 ≤ length u)
       → Stores s (b .job) B
-      → lain ends rests W ≡ reservingAll n′ f′ g′ u′ (z .fixed) (cleared (lain (b .ends) (b .rests) (drop 64 (B .job64))))
-      → LoadDone s b (lent (record { job64 = take 64 (B .job64) ++ W; job32 = B .job32; job16 = B .job16; job8 = B .job8; weights = B .weights }) ends rests) (Is h)
+      → lain ends rests W ≡ reservingAll n′ f′ g′ u′ (z .fixed) (cleared (lain (b .ends) (b .rests) (drop 64 (B .j64))))
+      → LoadDone s b (lent (record { j64 = take 64 (B .j64) ++ W; j32 = B .j32; j16 = B .j16; j8 = B .j8; jf = B .jf }) ends rests) (Is h)
   kept-job B W ends rests j t z bytes x l e d y fx roomy st re =
       let a : loadWith loadLimits (sizesOf b) s ≡ loaded j = tested-loads s b (sym q ∙ x) l ∙ ap asLoaded e in
       let p = loads-premises loadLimits (sizesOf b) s j bytes a in
       let m = room b (sym q ∙ x) in
       let k = st .stored j t (fields-read j t s e) in
       let w = front-kept j p b m (y .fewClassRegs) k in
-      let v : maxFixed ≤ length (drop 64 (B .job64)) = rw (w .1) (simp length-drop (omega (arith, m .job64))) in
+      let v : maxFixed ≤ length (drop 64 (B .j64)) = rw (w .1) (simp length-drop (omega (arith, m .j64))) in
       loaded-done s b _ j a d
       (all-later j p b m (y .fewClassRegs) k W ends rests
-      (subst (λ (l : Lain). In (j .fixed) (drop maxEntries (b .ends)) (drop maxEntries (b .rests)) (drop maxFixed (drop 64 (B .job64))) l) (sym re)
-      (reserved-job j p fx roomy (lain (b .ends) (b .rests) (drop 64 (B .job64))) (y .fixed) (m .ends) (m .rests) v)))
+      (subst (λ (l : Lain). In (j .fixed) (drop maxEntries (b .ends)) (drop maxEntries (b .rests)) (drop maxFixed (drop 64 (B .j64))) l) (sym re)
+      (reserved-job j p fx roomy (lain (b .ends) (b .rests) (drop 64 (B .j64))) (y .fixed) (m .ends) (m .rests) v)))
 
   -- the fixed uses were lent the rest of the first slice
   pub job-done :
@@ -118,9 +118,9 @@ module _ (s : List ℕ) (b : Lent) {r : Bool} (q : r ≡ shortBuffer loadLimits 
       → FixedAt n f g u n′ f′ g′ u′ (j .fixed)
       → (512 ≤ length n) × (512 ≤ length f) × (512 ≤ length g) × (512 ≤ length u)
       → Stores s (b .job) B
-      → lain ends rests W ≡ reservingAll n′ f′ g′ u′ (z .fixed) (cleared (lain (b .ends) (b .rests) (midOf 64 (length (B .job64) - 64) (B .job64))))
-      → LoadDone s b (lent (record { job64 = putMid 64 (length (B .job64) - 64) (B .job64) W; job32 = B .job32; job16 = B .job16; job8 = B .job8; weights = B .weights }) ends rests) (Is h)
+      → lain ends rests W ≡ reservingAll n′ f′ g′ u′ (z .fixed) (cleared (lain (b .ends) (b .rests) (midOf 64 (length (B .j64) - 64) (B .j64))))
+      → LoadDone s b (lent (record { j64 = putMid 64 (length (B .j64) - 64) (B .j64) W; j32 = B .j32; j16 = B .j16; j8 = B .j8; jf = B .jf }) ends rests) (Is h)
   job-done B W ends rests j t {h} z {n} {f} {g} {u} {n′} {f′} {g′} {u′} bytes x l e d y fx roomy st re =
-      let w = rest-put (B .job64) W in
-      subst (λ (v : List ℕ). LoadDone s b (lent (record { job64 = v; job32 = B .job32; job16 = B .job16; job8 = B .job8; weights = B .weights }) ends rests) (Is h)) (sym w)
-      (kept-job B W ends rests j t z bytes x l e d y fx roomy st (re ∙ ap (λ (v : List ℕ). reservingAll n′ f′ g′ u′ (z .fixed) (cleared (lain (b .ends) (b .rests) v))) (all-from 64 (B .job64))))
+      let w = rest-put (B .j64) W in
+      subst (λ (v : List ℕ). LoadDone s b (lent (record { j64 = v; j32 = B .j32; j16 = B .j16; j8 = B .j8; jf = B .jf }) ends rests) (Is h)) (sym w)
+      (kept-job B W ends rests j t z bytes x l e d y fx roomy st (re ∙ ap (λ (v : List ℕ). reservingAll n′ f′ g′ u′ (z .fixed) (cleared (lain (b .ends) (b .rests) v))) (all-from 64 (B .j64))))

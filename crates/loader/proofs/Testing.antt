@@ -96,21 +96,21 @@ three {a′} {b} {b′} {c} e f g =
 
 -- each stands where its list begins, if there is room for it
 pub record Asked (j : Job) (B : JobSlices) : Type 0 where
-  pub regs : Begins (j .regs) (B .job64)
-  pub starts : Begins (startsFrom length 0 (j .classes)) (B .job16)
-  pub members : Begins (allMembers (j .classes)) (B .job8)
-  pub classes : Begins (map (λ (v : VirtReg). v .class) (j .virtRegs)) (drop 1024 (B .job8))
-  pub valueSets : Begins (map (λ (v : VirtReg). v .valueSet) (j .virtRegs)) (drop 17 (B .job16))
-  pub froms : Begins (map (λ (x : ValueSegment). x .from) (segmentsOfAll (j .virtRegs))) (B .job32)
-  pub tos : Begins (map (λ (x : ValueSegment). x .to) (segmentsOfAll (j .virtRegs))) (drop 512 (B .job32))
-  pub values : Begins (map (λ (x : ValueSegment). x .value) (segmentsOfAll (j .virtRegs))) (drop 529 (B .job16))
+  pub regs : Begins (j .regs) (B .j64)
+  pub starts : Begins (startsFrom length 0 (j .classes)) (B .j16)
+  pub members : Begins (allMembers (j .classes)) (B .j8)
+  pub classes : Begins (map (λ (v : VirtReg). v .class) (j .virtRegs)) (drop 1024 (B .j8))
+  pub valueSets : Begins (map (λ (v : VirtReg). v .valueSet) (j .virtRegs)) (drop 17 (B .j16))
+  pub froms : Begins (map (λ (x : ValueSegment). x .from) (segmentsOfAll (j .virtRegs))) (B .j32)
+  pub tos : Begins (map (λ (x : ValueSegment). x .to) (segmentsOfAll (j .virtRegs))) (drop 512 (B .j32))
+  pub values : Begins (map (λ (x : ValueSegment). x .value) (segmentsOfAll (j .virtRegs))) (drop 529 (B .j16))
 
 -- what the tests ask for of the slices
 pub record Roomy (B : JobSlices) : Type 0 where
-  pub job64 : 64 ≤ length (B .job64)
-  pub job32 : 1024 ≤ length (B .job32)
-  pub job16 : 1041 ≤ length (B .job16)
-  pub job8 : 1536 ≤ length (B .job8)
+  pub j64 : 64 ≤ length (B .j64)
+  pub j32 : 1024 ≤ length (B .j32)
+  pub j16 : 1041 ≤ length (B .j16)
+  pub j8 : 1536 ≤ length (B .j8)
 
 -- how many there are of each
 pub record Few (j : Job) : Type 0 where
@@ -160,23 +160,23 @@ asked j B B′ f r a =
     let ss = segmentsOfAll (j .virtRegs) in
     let vs = j .virtRegs in
     let x =
-    asked-32 (B .job32) (map (λ (x : ValueSegment). x .from) ss) (map (λ (x : ValueSegment). x .to) ss) (map (λ (v : VirtReg). v .size) vs)
-    (simp length-map (f .segments)) (simp length-map (f .segments)) (r .job32) in
+    asked-32 (B .j32) (map (λ (x : ValueSegment). x .from) ss) (map (λ (x : ValueSegment). x .to) ss) (map (λ (v : VirtReg). v .size) vs)
+    (simp length-map (f .segments)) (simp length-map (f .segments)) (r .j32) in
     let y =
-    asked-16 (B .job16) (startsFrom length 0 (j .classes)) (map (λ (v : VirtReg). v .valueSet) vs) (map (λ (x : ValueSegment). x .value) ss) (hintEnds vs) (segmentEnds vs)
-    ls (simp length-map (f .numbers)) (simp length-map (f .segments)) (r .job16) in
+    asked-16 (B .j16) (startsFrom length 0 (j .classes)) (map (λ (v : VirtReg). v .valueSet) vs) (map (λ (x : ValueSegment). x .value) ss) (hintEnds vs) (segmentEnds vs)
+    ls (simp length-map (f .numbers)) (simp length-map (f .segments)) (r .j16) in
     let z =
-    asked-8 (B .job8) (allMembers (j .classes)) (map (λ (v : VirtReg). v .class) vs) (map (λ (x : Hint). x .reg) (hintsOfAll vs))
-    (f .classRegs) (simp length-map (f .numbers)) (r .job8) in
+    asked-8 (B .j8) (allMembers (j .classes)) (map (λ (v : VirtReg). v .class) vs) (map (λ (x : Hint). x .reg) (hintsOfAll vs))
+    (f .classRegs) (simp length-map (f .numbers)) (r .j8) in
     record {
-      regs = rw (a .regs) (begins-stored 0 (B .job64) (j .regs) (omega (arith, f .regs, r .job64)));
-      starts = rw (v .job16) (y .0);
-      members = rw (v .job8) (z .0);
-      classes = rw (v .job8) (z .1);
-      valueSets = rw (v .job16) (y .1);
-      froms = rw (v .job32) (x .0);
-      tos = rw (v .job32) (x .1);
-      values = rw (v .job16) (y .2);
+      regs = rw (a .regs) (begins-stored 0 (B .j64) (j .regs) (omega (arith, f .regs, r .j64)));
+      starts = rw (v .j16) (y .0);
+      members = rw (v .j8) (z .0);
+      classes = rw (v .j8) (z .1);
+      valueSets = rw (v .j16) (y .1);
+      froms = rw (v .j32) (x .0);
+      tos = rw (v .j32) (x .1);
+      values = rw (v .j16) (y .2);
     }
 
 few : (j : Job) {z : TableSizes} → GoodJob j → SizesOf z j → Few j
@@ -197,7 +197,7 @@ numbers-are :
     → Asked j B
     → FixedAt n f t u n′ f′ t′ u′ (j .fixed)
     → (512 ≤ length f) × (512 ≤ length t) × (512 ≤ length u)
-    → wholeNumber (anyPair (equalAt (B .job64)) (count 0 (h .regs)) || any (memberTwice (B .job16) (B .job8)) (count 0 (h .classes))) (anyPair (classesDiffer (drop 1024 (B .job8)) (drop 17 (B .job16))) (count 0 (h .«virt_regs»))) (any (crossesAt (B .job32) (drop 512 (B .job32)) (drop 529 (B .job16)) f′ t′ u′ (y .fixed)) (count 0 (y .segments))) ≡ wholeNumber (twin j) (mixedSet j) (cutUse j)
+    → wholeNumber (anyPair (equalAt (B .j64)) (count 0 (h .regs)) || any (memberTwice (B .j16) (B .j8)) (count 0 (h .classes))) (anyPair (classesDiffer (drop 1024 (B .j8)) (drop 17 (B .j16))) (count 0 (h .«virt_regs»))) (any (crossesAt (B .j32) (drop 512 (B .j32)) (drop 529 (B .j16)) f′ t′ u′ (y .fixed)) (count 0 (y .segments))) ≡ wholeNumber (twin j) (mixedSet j) (cutUse j)
 numbers-are j h y B good e z a es d =
     let fe = good .few-fixed in
     rw (← regs-many j e, ← classes-many j e, ← virts-many j e, ← z .fixed, ← z .segments)
@@ -218,7 +218,7 @@ module _ (s : List ℕ) (bytes : Bytes s) {h : JobHeader} {y : TableSizes} {at x
     (room : Roomy B)
     (fixed : (512 ≤ length f) × (512 ≤ length t) × (512 ≤ length u))
     (all : length s ≤ at)
-    (is : x ≡ wholeNumber (anyPair (equalAt (B′ .job64)) (count 0 (h .regs)) || any (memberTwice (B′ .job16) (B′ .job8)) (count 0 (h .classes))) (anyPair (classesDiffer (drop 1024 (B′ .job8)) (drop 17 (B′ .job16))) (count 0 (h .«virt_regs»))) (any (crossesAt (B′ .job32) (drop 512 (B′ .job32)) (drop 529 (B′ .job16)) f′ t′ u′ (y .fixed)) (count 0 (y .segments))))
+    (is : x ≡ wholeNumber (anyPair (equalAt (B′ .j64)) (count 0 (h .regs)) || any (memberTwice (B′ .j16) (B′ .j8)) (count 0 (h .classes))) (anyPair (classesDiffer (drop 1024 (B′ .j8)) (drop 17 (B′ .j16))) (count 0 (h .«virt_regs»))) (any (crossesAt (B′ .j32) (drop 512 (B′ .j32)) (drop 529 (B′ .j16)) f′ t′ u′ (y .fixed)) (count 0 (y .segments))))
   where
     number : wholeNumber (twin (out .parts .0)) (mixedSet (out .parts .0)) (cutUse (out .parts .0)) ≡ x
     number =

@@ -34,7 +34,7 @@ lent b es rs = record { job = b; ends = es; rests = rs }
 
 abbrev pub sizesOf : Lent → List ℕ
 sizesOf b =
-    length (b .job .job64) ∷ length (b .job .job32) ∷ length (b .job .job16) ∷ length (b .job .job8) ∷ length (b .job .weights) ∷ length (b .ends) ∷ length (b .rests) ∷ []
+    length (b .job .j64) ∷ length (b .job .j32) ∷ length (b .job .j16) ∷ length (b .job .j8) ∷ length (b .job .jf) ∷ length (b .ends) ∷ length (b .rests) ∷ []
 
 -- ---- the first reading
 
@@ -63,11 +63,11 @@ pub record TestedOut (p : Parsed Job) (r : JobTested) (fixed : List Entry → Ty
 abbrev pub cleared : JobSlices → JobSlices
 cleared B =
     record {
-      job64 = filled 64 0 (B .job64);
-      job32 = filled 1536 0 (B .job32);
-      job16 = filled 2067 0 (B .job16);
-      job8 = filled 2560 0 (B .job8);
-      weights = filled 1536 zeroWeight (B .weights);
+      j64 = filled 64 0 (B .j64);
+      j32 = filled 1536 0 (B .j32);
+      j16 = filled 2067 0 (B .j16);
+      j8 = filled 2560 0 (B .j8);
+      jf = filled 1536 zeroWeight (B .jf);
     }
 
 -- where the bytes are a job's, its tables are stored over zeros
@@ -87,11 +87,11 @@ unfoldable pub later : Job → Lent → Lent
 later j b =
     lent
     (record {
-      job64 = jobSlices j .job64 ++ drop 576 (b .job .job64);
-      job32 = jobSlices j .job32 ++ drop 1536 (b .job .job32);
-      job16 = jobSlices j .job16 ++ drop 2067 (b .job .job16);
-      job8 = jobSlices j .job8 ++ drop 2560 (b .job .job8);
-      weights = jobSlices j .weights ++ drop 1536 (b .job .weights);
+      j64 = jobSlices j .j64 ++ drop 576 (b .job .j64);
+      j32 = jobSlices j .j32 ++ drop 1536 (b .job .j32);
+      j16 = jobSlices j .j16 ++ drop 2067 (b .job .j16);
+      j8 = jobSlices j .j8 ++ drop 2560 (b .job .j8);
+      jf = jobSlices j .jf ++ drop 1536 (b .job .jf);
     })
     (endWords (freshTable (j .fixed)) ++ drop maxEntries (b .ends))
     (restWords (freshTable (j .fixed)) ++ drop maxEntries (b .rests))

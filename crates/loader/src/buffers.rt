@@ -12,29 +12,29 @@ use lent::zero32;
 
 // Whether one of the sizes lent is below its limit. They come in the limits' order.
 pub fn is_short(
-    job64: usize,
-    job32: usize,
-    job16: usize,
-    job8: usize,
-    weights: usize,
+    j64: usize,
+    j32: usize,
+    j16: usize,
+    j8: usize,
+    jf: usize,
     ends: usize,
     rests: usize,
 ) -> bool
-    ensures { λ r. ⌜ r ≡ shortBuffer loadLimits (job64 ∷ job32 ∷ job16 ∷ job8 ∷ weights ∷ ends ∷ rests ∷ []) ⌝ }
+    ensures { λ r. ⌜ r ≡ shortBuffer loadLimits (j64 ∷ j32 ∷ j16 ∷ j8 ∷ jf ∷ ends ∷ rests ∷ []) ⌝ }
 {
-    if job64 < 576 {
+    if j64 < 576 {
         return true;
     }
-    if job32 < 1536 {
+    if j32 < 1536 {
         return true;
     }
-    if job16 < 2067 {
+    if j16 < 2067 {
         return true;
     }
-    if job8 < 2560 {
+    if j8 < 2560 {
         return true;
     }
-    if weights < 1536 {
+    if jf < 1536 {
         return true;
     }
     if ends < 2560 {
@@ -44,18 +44,12 @@ pub fn is_short(
 }
 
 // Zeros where a job is laid out, but for its fixed uses.
-pub fn clear_job(
-    job64: &mut [u64],
-    job32: &mut [u32],
-    job16: &mut [u16],
-    job8: &mut [u8],
-    weights: &mut [f32],
-)
-    ensures { λ r. ⌜ slices (now (job64 .exit)) (now (job32 .exit)) (now (job16 .exit)) (now (job8 .exit)) (now (weights .exit)) ≡ cleared (slices (now (job64 .entry)) (now (job32 .entry)) (now (job16 .entry)) (now (job8 .entry)) (now (weights .entry))) ⌝ }
+pub fn clear_job(j64: &mut [u64], j32: &mut [u32], j16: &mut [u16], j8: &mut [u8], jf: &mut [f32])
+    ensures { λ r. ⌜ slices (now (j64 .exit)) (now (j32 .exit)) (now (j16 .exit)) (now (j8 .exit)) (now (jf .exit)) ≡ cleared (slices (now (j64 .entry)) (now (j32 .entry)) (now (j16 .entry)) (now (j8 .entry)) (now (jf .entry))) ⌝ }
 {
-    zero(job64, 64);
-    zero32(job32, 1536);
-    zero16(job16, 2067);
-    zero8(job8, 2560);
-    zero_float(weights, 1536);
+    zero(j64, 64);
+    zero32(j32, 1536);
+    zero16(j16, 2067);
+    zero8(j8, 2560);
+    zero_float(jf, 1536);
 }

@@ -46,18 +46,18 @@ fn tested(
     requires { ⌜ (512 ≤ length (now starts)) × (512 ≤ length (now stops)) × (512 ≤ length (now uses)) ⌝ }
     ensures { λ r. ⌜ TestedOut (testedJob (now (s .entry))) r (FixedAt (now (units .entry)) (now (starts .entry)) (now (stops .entry)) (now (uses .entry)) (now (units .exit)) (now (starts .exit)) (now (stops .exit)) (now (uses .exit))) ⌝ }
 {
-    let mut job64 = [0u64; 64];
-    let mut job32 = [0u32; 1024];
-    let mut job16 = [0u16; 1041];
-    let mut job8 = [0u8; 1536];
-    let mut weights = [0.0f32; 1];
+    let mut j64 = [0u64; 64];
+    let mut j32 = [0u32; 1024];
+    let mut j16 = [0u16; 1041];
+    let mut j8 = [0u8; 1536];
+    let mut jf = [0.0f32; 1];
     match job_fields(
         s,
-        &mut job64,
-        &mut job32,
-        &mut job16,
-        &mut job8,
-        &mut weights,
+        &mut j64,
+        &mut j32,
+        &mut j16,
+        &mut j8,
+        &mut jf,
         units,
         starts,
         stops,
@@ -69,14 +69,14 @@ fn tested(
                 return JobTested::Refused(2);
             }
             let n = whole_refusal(
-                &job64,
-                &job16,
-                &job8,
-                from8(&job8, CLASSES),
-                from16(&job16, SETS),
-                &job32,
-                from32(&job32, TOS),
-                from16(&job16, VALUES),
+                &j64,
+                &j16,
+                &j8,
+                from8(&j8, CLASSES),
+                from16(&j16, SETS),
+                &j32,
+                from32(&j32, TOS),
+                from16(&j16, VALUES),
                 starts,
                 stops,
                 uses,
@@ -97,26 +97,26 @@ fn tested(
 // Reads the job again, into the lent numbers, where zeros stand behind each of its lists. The fixed reservations go elsewhere.
 fn store_job(
     s: &[u8],
-    job64: &mut [u64],
-    job32: &mut [u32],
-    job16: &mut [u16],
-    job8: &mut [u8],
-    weights: &mut [f32],
+    j64: &mut [u64],
+    j32: &mut [u32],
+    j16: &mut [u16],
+    j8: &mut [u8],
+    jf: &mut [f32],
 )
-    ensures { λ r. ⌜ Stores (now (s .entry)) (slices (now (job64 .entry)) (now (job32 .entry)) (now (job16 .entry)) (now (job8 .entry)) (now (weights .entry))) (slices (now (job64 .exit)) (now (job32 .exit)) (now (job16 .exit)) (now (job8 .exit)) (now (weights .exit))) ⌝ }
+    ensures { λ r. ⌜ Stores (now (s .entry)) (slices (now (j64 .entry)) (now (j32 .entry)) (now (j16 .entry)) (now (j8 .entry)) (now (jf .entry))) (slices (now (j64 .exit)) (now (j32 .exit)) (now (j16 .exit)) (now (j8 .exit)) (now (jf .exit))) ⌝ }
 {
     let mut units = [0u8; 1];
     let mut starts = [0u32; 1];
     let mut stops = [0u32; 1];
     let mut uses = [0u32; 1];
-    clear_job(job64, job32, job16, job8, weights);
+    clear_job(j64, j32, j16, j8, jf);
     job_fields(
         s,
-        job64,
-        job32,
-        job16,
-        job8,
-        weights,
+        j64,
+        j32,
+        j16,
+        j8,
+        jf,
         &mut units,
         &mut starts,
         &mut stops,
@@ -128,22 +128,22 @@ fn store_job(
 // lent takes the layout of the job and of its fresh table; a refusal leaves it as it was.
 pub fn load(
     s: &[u8],
-    job64: &mut [u64],
-    job32: &mut [u32],
-    job16: &mut [u16],
-    job8: &mut [u8],
-    weights: &mut [f32],
+    j64: &mut [u64],
+    j32: &mut [u32],
+    j16: &mut [u16],
+    j8: &mut [u8],
+    jf: &mut [f32],
     ends: &mut [u64],
     rests: &mut [u64],
 ) -> JobLoaded
-    ensures { λ r. ⌜ LoadDone (now (s .entry)) (lent (slices (now (job64 .entry)) (now (job32 .entry)) (now (job16 .entry)) (now (job8 .entry)) (now (weights .entry))) (now (ends .entry)) (now (rests .entry))) (lent (slices (now (job64 .exit)) (now (job32 .exit)) (now (job16 .exit)) (now (job8 .exit)) (now (weights .exit))) (now (ends .exit)) (now (rests .exit))) r ⌝ }
+    ensures { λ r. ⌜ LoadDone (now (s .entry)) (lent (slices (now (j64 .entry)) (now (j32 .entry)) (now (j16 .entry)) (now (j8 .entry)) (now (jf .entry))) (now (ends .entry)) (now (rests .entry))) (lent (slices (now (j64 .exit)) (now (j32 .exit)) (now (j16 .exit)) (now (j8 .exit)) (now (jf .exit))) (now (ends .exit)) (now (rests .exit))) r ⌝ }
 {
     if is_short(
-        job64.len(),
-        job32.len(),
-        job16.len(),
-        job8.len(),
-        weights.len(),
+        j64.len(),
+        j32.len(),
+        j16.len(),
+        j8.len(),
+        jf.len(),
         ends.len(),
         rests.len(),
     ) {
@@ -159,11 +159,11 @@ pub fn load(
     match tested(s, &mut units, &mut starts, &mut stops, &mut uses) {
         JobTested::Refused(n) => JobLoaded::Refused(n),
         JobTested::Is(h, z) => {
-            store_job(s, job64, job32, job16, job8, weights);
+            store_job(s, j64, j32, j16, j8, jf);
             reserve_all(
                 ends,
                 rests,
-                &mut job64[USES..],
+                &mut j64[USES..],
                 &units,
                 &starts,
                 &stops,

@@ -23,17 +23,17 @@ pub extern "C" fn pezhkadu_assign(
     v: u64,
     reg: u64,
     weight: u64,
-    job64: &[u64],
-    job32: &[u32],
-    job16: &[u16],
-    job8: &[u8],
-    weights: &[f32],
+    j64: &[u64],
+    j32: &[u32],
+    j16: &[u16],
+    j8: &[u8],
+    jf: &[f32],
     ends: &mut [u64],
     rests: &mut [u64],
     queue: &mut [u64],
     last: &mut [u8],
 ) -> u64
-    ensures { λ r. ⌜ Called (assignShort (now (header .entry)) (now (records .entry))) (now (header .entry)) (slices (now (job64 .entry)) (now (job32 .entry)) (now (job16 .entry)) (now (job8 .entry)) (now (weights .entry))) (placing (sizesOf (slices (now (job64 .entry)) (now (job32 .entry)) (now (job16 .entry)) (now (job8 .entry)) (now (weights .entry))) (lentState (now (ends .entry)) (now (rests .entry)) (now (queue .entry)) (now (last .entry)))) v reg (ofBits binary32 weight)) (lentState (now (ends .entry)) (now (rests .entry)) (now (queue .entry)) (now (last .entry))) (now (records .entry)) (lentState (now (ends .exit)) (now (rests .exit)) (now (queue .exit)) (now (last .exit))) (now (records .exit)) r ⌝ }
+    ensures { λ r. ⌜ Called (assignShort (now (header .entry)) (now (records .entry))) (now (header .entry)) (slices (now (j64 .entry)) (now (j32 .entry)) (now (j16 .entry)) (now (j8 .entry)) (now (jf .entry))) (placing (sizesOf (slices (now (j64 .entry)) (now (j32 .entry)) (now (j16 .entry)) (now (j8 .entry)) (now (jf .entry))) (lentState (now (ends .entry)) (now (rests .entry)) (now (queue .entry)) (now (last .entry)))) v reg (ofBits binary32 weight)) (lentState (now (ends .entry)) (now (rests .entry)) (now (queue .entry)) (now (last .entry))) (now (records .entry)) (lentState (now (ends .exit)) (now (rests .exit)) (now (queue .exit)) (now (last .exit))) (now (records .exit)) r ⌝ }
 {
     if header.len() < 8 {
         return 15;
@@ -50,11 +50,11 @@ pub extern "C" fn pezhkadu_assign(
         cut16(v),
         cut8(reg),
         cut32(weight),
-        job64,
-        job32,
-        job16,
-        job8,
-        weights,
+        j64,
+        j32,
+        j16,
+        j8,
+        jf,
         ends,
         rests,
         queue,
@@ -75,18 +75,18 @@ pub extern "C" fn pezhkadu_evict(
     header: &[u64],
     records: &mut [u64],
     v: u64,
-    job64: &[u64],
-    job32: &[u32],
-    job16: &[u16],
-    job8: &[u8],
-    weights: &[f32],
+    j64: &[u64],
+    j32: &[u32],
+    j16: &[u16],
+    j8: &[u8],
+    jf: &[f32],
     ends: &mut [u64],
     rests: &mut [u64],
     queue: &mut [u64],
     last: &[u8],
     answer: &mut [u64],
 ) -> u64
-    ensures { λ r. ⌜ EvictCalled (now (header .entry)) (slices (now (job64 .entry)) (now (job32 .entry)) (now (job16 .entry)) (now (job8 .entry)) (now (weights .entry))) v (lentState (now (ends .entry)) (now (rests .entry)) (now (queue .entry)) (now (last .entry))) (now (records .entry)) (now (answer .entry)) (lentState (now (ends .exit)) (now (rests .exit)) (now (queue .exit)) (now (last .entry))) (now (records .exit)) (now (answer .exit)) r ⌝ }
+    ensures { λ r. ⌜ EvictCalled (now (header .entry)) (slices (now (j64 .entry)) (now (j32 .entry)) (now (j16 .entry)) (now (j8 .entry)) (now (jf .entry))) v (lentState (now (ends .entry)) (now (rests .entry)) (now (queue .entry)) (now (last .entry))) (now (records .entry)) (now (answer .entry)) (lentState (now (ends .exit)) (now (rests .exit)) (now (queue .exit)) (now (last .entry))) (now (records .exit)) (now (answer .exit)) r ⌝ }
 {
     if header.len() < 8 {
         return 15;
@@ -105,11 +105,11 @@ pub extern "C" fn pezhkadu_evict(
         before,
         known,
         cut16(v),
-        job64,
-        job32,
-        job16,
-        job8,
-        weights,
+        j64,
+        j32,
+        j16,
+        j8,
+        jf,
         ends,
         rests,
         queue,

@@ -17,17 +17,17 @@ pub extern "C" fn pezhkadu_load(
     bytes: &[u8],
     header: &mut [u64],
     records: &mut [u64],
-    job64: &mut [u64],
-    job32: &mut [u32],
-    job16: &mut [u16],
-    job8: &mut [u8],
-    weights: &mut [f32],
+    j64: &mut [u64],
+    j32: &mut [u32],
+    j16: &mut [u16],
+    j8: &mut [u8],
+    jf: &mut [f32],
     ends: &mut [u64],
     rests: &mut [u64],
     queue: &mut [u64],
     last: &mut [u8],
 ) -> u64
-    ensures { λ r. ⌜ LoadCalled (now (bytes .entry)) (now (header .entry)) (now (records .entry)) (slices (now (job64 .entry)) (now (job32 .entry)) (now (job16 .entry)) (now (job8 .entry)) (now (weights .entry))) (lentState (now (ends .entry)) (now (rests .entry)) (now (queue .entry)) (now (last .entry))) (now (header .exit)) (now (records .exit)) (slices (now (job64 .exit)) (now (job32 .exit)) (now (job16 .exit)) (now (job8 .exit)) (now (weights .exit))) (lentState (now (ends .exit)) (now (rests .exit)) (now (queue .exit)) (now (last .exit))) r ⌝ }
+    ensures { λ r. ⌜ LoadCalled (now (bytes .entry)) (now (header .entry)) (now (records .entry)) (slices (now (j64 .entry)) (now (j32 .entry)) (now (j16 .entry)) (now (j8 .entry)) (now (jf .entry))) (lentState (now (ends .entry)) (now (rests .entry)) (now (queue .entry)) (now (last .entry))) (now (header .exit)) (now (records .exit)) (slices (now (j64 .exit)) (now (j32 .exit)) (now (j16 .exit)) (now (j8 .exit)) (now (jf .exit))) (lentState (now (ends .exit)) (now (rests .exit)) (now (queue .exit)) (now (last .exit))) r ⌝ }
 {
     if header.len() < 8 {
         return 15;
@@ -35,18 +35,7 @@ pub extern "C" fn pezhkadu_load(
     if records.len() < 512 {
         return 15;
     }
-    match load(
-        bytes,
-        job64,
-        job32,
-        job16,
-        job8,
-        weights,
-        ends,
-        rests,
-        queue,
-        last,
-    ) {
+    match load(bytes, j64, j32, j16, j8, jf, ends, rests, queue, last) {
         JobLoaded::Refused(n) => wide(n),
         JobLoaded::Is(loaded) => {
             store_header(loaded, header);

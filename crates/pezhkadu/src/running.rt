@@ -12,18 +12,18 @@ use records::words::store;
 pub extern "C" fn pezhkadu_run(
     records: &mut [u64],
     budget: u64,
-    job64: &[u64],
-    job32: &[u32],
-    job16: &[u16],
-    job8: &[u8],
-    weights: &[f32],
+    j64: &[u64],
+    j32: &[u32],
+    j16: &[u16],
+    j8: &[u8],
+    jf: &[f32],
     ends: &mut [u64],
     rests: &mut [u64],
     queue: &mut [u64],
     last: &mut [u8],
     answer: &mut [u64],
 ) -> u64
-    ensures { λ r. ⌜ RunCalled (slices (now (job64 .entry)) (now (job32 .entry)) (now (job16 .entry)) (now (job8 .entry)) (now (weights .entry))) budget (lentState (now (ends .entry)) (now (rests .entry)) (now (queue .entry)) (now (last .entry))) (now (records .entry)) (now (answer .entry)) (lentState (now (ends .exit)) (now (rests .exit)) (now (queue .exit)) (now (last .exit))) (now (records .exit)) (now (answer .exit)) r ⌝ }
+    ensures { λ r. ⌜ RunCalled (slices (now (j64 .entry)) (now (j32 .entry)) (now (j16 .entry)) (now (j8 .entry)) (now (jf .entry))) budget (lentState (now (ends .entry)) (now (rests .entry)) (now (queue .entry)) (now (last .entry))) (now (records .entry)) (now (answer .entry)) (lentState (now (ends .exit)) (now (rests .exit)) (now (queue .exit)) (now (last .exit))) (now (records .exit)) (now (answer .exit)) r ⌝ }
 {
     if records.len() < 512 {
         return 15;
@@ -38,11 +38,11 @@ pub extern "C" fn pezhkadu_run(
     let after = calls::runs::run(
         before,
         budget,
-        job64,
-        job32,
-        job16,
-        job8,
-        weights,
+        j64,
+        j32,
+        j16,
+        j8,
+        jf,
         ends,
         rests,
         queue,

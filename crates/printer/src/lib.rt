@@ -42,11 +42,11 @@ fn write_lines(
 fn write_with(
     fd: i32,
     s: &[u8],
-    job64: &mut [u64],
-    job32: &mut [u32],
-    job16: &mut [u16],
-    job8: &mut [u8],
-    weights: &mut [f32],
+    j64: &mut [u64],
+    j32: &mut [u32],
+    j16: &mut [u16],
+    j8: &mut [u8],
+    jf: &mut [f32],
     ends: &mut [u64],
     rests: &mut [u64],
     queue: &mut [u64],
@@ -54,34 +54,22 @@ fn write_with(
     words: &mut [u64],
     line: &mut [u8],
 ) {
-    match begin(
-        s,
-        job64,
-        job32,
-        job16,
-        job8,
-        weights,
-        ends,
-        rests,
-        queue,
-        last,
-        words,
-    ) {
+    match begin(s, j64, j32, j16, j8, jf, ends, rests, queue, last, words) {
         Printing::Refused(n) => {
             let size = refused(n, line);
             write_front(fd, line, size);
         }
-        Printing::At(position) => write_lines(fd, position, job64, ends, rests, words, line),
+        Printing::At(position) => write_lines(fd, position, j64, ends, rests, words, line),
     }
 }
 
 // Loads and runs the job of these bytes with the job's budget, and writes its sheet, or `refused N` alone. Every byte string has one.
 pub fn write_sheet(fd: i32, s: &[u8]) {
-    let mut job64 = [0u64; 576];
-    let mut job32 = [0u32; 1536];
-    let mut job16 = [0u16; 2067];
-    let mut job8 = [0u8; 2560];
-    let mut weights = [0.0f32; 1536];
+    let mut j64 = [0u64; 576];
+    let mut j32 = [0u32; 1536];
+    let mut j16 = [0u16; 2067];
+    let mut j8 = [0u8; 2560];
+    let mut jf = [0.0f32; 1536];
     let mut ends = [0u64; 2560];
     let mut rests = [0u64; 2560];
     let mut queue = [0u64; 1024];
@@ -91,11 +79,11 @@ pub fn write_sheet(fd: i32, s: &[u8]) {
     write_with(
         fd,
         s,
-        &mut job64,
-        &mut job32,
-        &mut job16,
-        &mut job8,
-        &mut weights,
+        &mut j64,
+        &mut j32,
+        &mut j16,
+        &mut j8,
+        &mut jf,
         &mut ends,
         &mut rests,
         &mut queue,

@@ -198,8 +198,8 @@ module _ (bytes : List ℕ) (B : JobSlices) (S : StateBuffers) (W : List ℕ) (B
       let e : refusedLine m ≡ shown r B′ S′ W′ = sym (ap (λ (x : Printing). shown x B′ S′ W′) told) in
       all-printed (p ∙ ap (λ (x : List ℕ). length x) e) (q ∙ ap (sets out 0) e)
 
-  pub lines-printed : (c : Listing) → r ≡ At c → LinesPrinted c (lent (B′ .job64) (S′ .ends) (S′ .rests)) W′ out out′ n → Printed bytes B S W B′ S′ W′ out out′ n
+  pub lines-printed : (c : Listing) → r ≡ At c → LinesPrinted c (lent (B′ .j64) (S′ .ends) (S′ .rests)) W′ out out′ n → Printed bytes B S W B′ S′ W′ out out′ n
   unfolding shown
   lines-printed c told k =
-      let e : linesText c (lent (B′ .job64) (S′ .ends) (S′ .rests)) W′ ≡ shown r B′ S′ W′ = sym (ap (λ (x : Printing). shown x B′ S′ W′) told) in
+      let e : linesText c (lent (B′ .j64) (S′ .ends) (S′ .rests)) W′ ≡ shown r B′ S′ W′ = sym (ap (λ (x : Printing). shown x B′ S′ W′) told) in
       all-printed (k .size ∙ ap (λ (x : List ℕ). length x) e) (k .stored ∙ ap (sets out 0) e)

@@ -105,11 +105,11 @@ fn print_lines(
 // answer is how many bytes that has; what there is no room for is not stored. A refusal leaves everything else as it was.
 pub fn print(
     s: &[u8],
-    job64: &mut [u64],
-    job32: &mut [u32],
-    job16: &mut [u16],
-    job8: &mut [u8],
-    weights: &mut [f32],
+    j64: &mut [u64],
+    j32: &mut [u32],
+    j16: &mut [u16],
+    j8: &mut [u8],
+    jf: &mut [f32],
     ends: &mut [u64],
     rests: &mut [u64],
     queue: &mut [u64],
@@ -117,22 +117,10 @@ pub fn print(
     words: &mut [u64],
     out: &mut [u8],
 ) -> usize
-    ensures { λ r. ⌜ Printed (now (s .entry)) (slices (now (job64 .entry)) (now (job32 .entry)) (now (job16 .entry)) (now (job8 .entry)) (now (weights .entry))) (lentState (now (ends .entry)) (now (rests .entry)) (now (queue .entry)) (now (last .entry))) (now (words .entry)) (slices (now (job64 .exit)) (now (job32 .exit)) (now (job16 .exit)) (now (job8 .exit)) (now (weights .exit))) (lentState (now (ends .exit)) (now (rests .exit)) (now (queue .exit)) (now (last .exit))) (now (words .exit)) (now (out .entry)) (now (out .exit)) r ⌝ }
+    ensures { λ r. ⌜ Printed (now (s .entry)) (slices (now (j64 .entry)) (now (j32 .entry)) (now (j16 .entry)) (now (j8 .entry)) (now (jf .entry))) (lentState (now (ends .entry)) (now (rests .entry)) (now (queue .entry)) (now (last .entry))) (now (words .entry)) (slices (now (j64 .exit)) (now (j32 .exit)) (now (j16 .exit)) (now (j8 .exit)) (now (jf .exit))) (lentState (now (ends .exit)) (now (rests .exit)) (now (queue .exit)) (now (last .exit))) (now (words .exit)) (now (out .entry)) (now (out .exit)) r ⌝ }
 {
-    match begin(
-        s,
-        job64,
-        job32,
-        job16,
-        job8,
-        weights,
-        ends,
-        rests,
-        queue,
-        last,
-        words,
-    ) {
+    match begin(s, j64, j32, j16, j8, jf, ends, rests, queue, last, words) {
         Printing::Refused(n) => refused(n, out),
-        Printing::At(position) => print_lines(position, job64, ends, rests, words, out),
+        Printing::At(position) => print_lines(position, j64, ends, rests, words, out),
     }
 }

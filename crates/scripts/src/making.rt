@@ -71,11 +71,11 @@ fn make_call(
     a: u64,
     b: u64,
     c: u64,
-    job64: &[u64],
-    job32: &[u32],
-    job16: &[u16],
-    job8: &[u8],
-    weights: &[f32],
+    j64: &[u64],
+    j32: &[u32],
+    j16: &[u16],
+    j8: &[u8],
+    jf: &[f32],
     ends: &mut [u64],
     rests: &mut [u64],
     queue: &mut [u64],
@@ -90,11 +90,11 @@ fn make_call(
         records,
         header,
         &list,
-        job64,
-        job32,
-        job16,
-        job8,
-        weights,
+        j64,
+        j32,
+        j16,
+        j8,
+        jf,
         ends,
         rests,
         queue,
@@ -105,7 +105,7 @@ fn make_call(
     );
     let length = answers::answer_line(line, numbers[0], numbers[1], numbers[2]);
     print(line, length);
-    print_state(after, header, job64, ends, rests, queue, last, line);
+    print_state(after, header, j64, ends, rests, queue, last, line);
     after
 }
 
@@ -154,11 +154,11 @@ fn make_or_ask(
     a: u64,
     b: u64,
     c: u64,
-    job64: &[u64],
-    job32: &[u32],
-    job16: &[u16],
-    job8: &[u8],
-    weights: &[f32],
+    j64: &[u64],
+    j32: &[u32],
+    j16: &[u16],
+    j8: &[u8],
+    jf: &[f32],
     ends: &mut [u64],
     rests: &mut [u64],
     queue: &mut [u64],
@@ -167,8 +167,8 @@ fn make_or_ask(
     whole: &mut u64,
 ) -> [Assignment; 512] {
     if 3 < kind {
-        let uses = from(job64, USES);
-        *whole = ask(left, header, kind, a, b, c, job64, uses, ends, rests, line);
+        let uses = from(j64, USES);
+        *whole = ask(left, header, kind, a, b, c, j64, uses, ends, rests, line);
         return records;
     }
     *whole = 1;
@@ -179,11 +179,11 @@ fn make_or_ask(
         a,
         b,
         c,
-        job64,
-        job32,
-        job16,
-        job8,
-        weights,
+        j64,
+        j32,
+        j16,
+        j8,
+        jf,
         ends,
         rests,
         queue,
@@ -203,11 +203,11 @@ pub fn make_calls(
     records: [Assignment; 512],
     header: JobHeader,
     left: &mut u64,
-    job64: &[u64],
-    job32: &[u32],
-    job16: &[u16],
-    job8: &[u8],
-    weights: &[f32],
+    j64: &[u64],
+    j32: &[u32],
+    j16: &[u16],
+    j8: &[u8],
+    jf: &[f32],
     ends: &mut [u64],
     rests: &mut [u64],
     queue: &mut [u64],
@@ -238,11 +238,11 @@ pub fn make_calls(
             a,
             b,
             c,
-            job64,
-            job32,
-            job16,
-            job8,
-            weights,
+            j64,
+            j32,
+            j16,
+            j8,
+            jf,
             ends,
             rests,
             queue,

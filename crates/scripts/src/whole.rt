@@ -25,22 +25,22 @@ fn read_job(left: &mut u64, length: u64, bytes: &mut [u8]) -> bool {
 
 // Loads the job of these bytes into buffers of its own, and makes the calls on it. A refused job prints its refusal alone.
 fn run_job(bytes: &[u8], left: &mut u64, line: &mut [u8]) {
-    let mut job64 = [0u64; 576];
-    let mut job32 = [0u32; 1536];
-    let mut job16 = [0u16; 2067];
-    let mut job8 = [0u8; 2560];
-    let mut weights = [0.0f32; 1536];
+    let mut j64 = [0u64; 576];
+    let mut j32 = [0u32; 1536];
+    let mut j16 = [0u16; 2067];
+    let mut j8 = [0u8; 2560];
+    let mut jf = [0.0f32; 1536];
     let mut ends = [0u64; 2560];
     let mut rests = [0u64; 2560];
     let mut queue = [0u64; 1024];
     let mut last = [0u8; 512];
     match load(
         bytes,
-        &mut job64,
-        &mut job32,
-        &mut job16,
-        &mut job8,
-        &mut weights,
+        &mut j64,
+        &mut j32,
+        &mut j16,
+        &mut j8,
+        &mut jf,
         &mut ends,
         &mut rests,
         &mut queue,
@@ -56,11 +56,11 @@ fn run_job(bytes: &[u8], left: &mut u64, line: &mut [u8]) {
                 records,
                 header,
                 left,
-                &job64,
-                &job32,
-                &job16,
-                &job8,
-                &weights,
+                &j64,
+                &j32,
+                &j16,
+                &j8,
+                &jf,
                 &mut ends,
                 &mut rests,
                 &mut queue,

@@ -84,11 +84,11 @@ unfolding jobBuffers useWords endWords restWords
 stands-long j s t B S b st =
     let r = b .reads in
     long-enough (
-    behind-padded 64 512 _ _ (B .job64) (omega arith) (r .fixedUses)
-    and behind-padded 1024 512 _ _ (B .job32) (omega arith) (b .sizes)
-    and behind-padded 1554 513 _ _ (B .job16) (omega arith) (r .segmentStarts)
-    and behind-padded 1536 1024 _ _ (B .job8) (omega arith) (r .hintRegs)
-    and behind-padded 512 1024 _ _ (B .weights) (omega arith) (r .hintWeights)
+    behind-padded 64 512 _ _ (B .j64) (omega arith) (r .fixedUses)
+    and behind-padded 1024 512 _ _ (B .j32) (omega arith) (b .sizes)
+    and behind-padded 1554 513 _ _ (B .j16) (omega arith) (r .segmentStarts)
+    and behind-padded 1536 1024 _ _ (B .j8) (omega arith) (r .hintRegs)
+    and behind-padded 512 1024 _ _ (B .jf) (omega arith) (r .hintWeights)
     and begins-padded maxEntries _ _ _ (t .ends, st .moves .table .ends-are)
     and begins-padded maxEntries _ _ _ (t .rests, st .moves .table .rests-are)
     and begins-most 1024 (queueWords j s) _ (omega (arith, tournament-length j s)) (t .queue, st .moves .queue-is)
@@ -254,7 +254,7 @@ module _ (bytes : List ℕ) (B : JobSlices) (S : StateBuffers) (W : List ℕ) wh
     reach-after = reached-run j (freshState j) reach (j .budget)
 
     module _ (room : 512 ≤ length W) where
-      laid : Laid j (ranOf j .state) (recordsIn W′) (lent (B₁ .job64) (S′ .ends) (S′ .rests))
+      laid : Laid j (ranOf j .state) (recordsIn W′) (lent (B₁ .j64) (S′ .ends) (S′ .rests))
       laid =
           record {
             maps-behind = job-stands .reads .regs .0;
@@ -271,7 +271,7 @@ module _ (bytes : List ℕ) (B : JobSlices) (S : StateBuffers) (W : List ℕ) wh
       loaded-begun =
           begun B₁ S′ W′ (At c) (loaded j) (same-load room ∙ loads) (ap At start-is, job-is, stands-so, stored-so room)
           (ap (λ (x : Listing). shown (At x) B₁ S′ W′) start-is
-          ∙ reached-sheet j (ranOf j .state) reach-after (recordsIn W′) (lent (B₁ .job64) (S′ .ends) (S′ .rests)) laid (ranOf j .ending) (ranOf j .dequeues))
+          ∙ reached-sheet j (ranOf j .state) reach-after (recordsIn W′) (lent (B₁ .j64) (S′ .ends) (S′ .rests)) laid (ranOf j .ending) (ranOf j .dequeues))
 
   pub loaded-begin :
       512 ≤ length W

@@ -76,7 +76,7 @@ startOf h ending dequeues = record { ending = ending; dequeues = dequeues; heade
 
 -- the lines from a position on, over what is lent
 abbrev pub linesOver : Listing → JobSlices → StateBuffers → List ℕ → List (List ℕ)
-linesOver c B S words = linesFrom c (recordsIn words) (lent (B .job64) (S .ends) (S .rests))
+linesOver c B S words = linesFrom c (recordsIn words) (lent (B .j64) (S .ends) (S .rests))
 
 -- 01, "The printed sheet": what is printed for an answer: "A refusal prints `refused N` alone", or the lines one after another
 unfoldable pub shown : Printing → JobSlices → StateBuffers → List ℕ → List ℕ

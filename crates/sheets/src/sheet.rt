@@ -30,18 +30,18 @@ fn ending_of(n: u64) -> Ending
 // Runs what was loaded with the job's budget and stores the records in the words. The answer is the position before the sheet's first line.
 pub fn run_loaded(
     header: JobHeader,
-    job64: &[u64],
-    job32: &[u32],
-    job16: &[u16],
-    job8: &[u8],
-    weights: &[f32],
+    j64: &[u64],
+    j32: &[u32],
+    j16: &[u16],
+    j8: &[u8],
+    jf: &[f32],
     ends: &mut [u64],
     rests: &mut [u64],
     queue: &mut [u64],
     last: &mut [u8],
     words: &mut [u64],
 ) -> Listing
-    ensures { λ r. ⌜ RunStored header (slices (now (job64 .entry)) (now (job32 .entry)) (now (job16 .entry)) (now (job8 .entry)) (now (weights .entry))) (lentState (now (ends .entry)) (now (rests .entry)) (now (queue .entry)) (now (last .entry))) (now (words .entry)) (lentState (now (ends .exit)) (now (rests .exit)) (now (queue .exit)) (now (last .exit))) (now (words .exit)) r ⌝ }
+    ensures { λ r. ⌜ RunStored header (slices (now (j64 .entry)) (now (j32 .entry)) (now (j16 .entry)) (now (j8 .entry)) (now (jf .entry))) (lentState (now (ends .entry)) (now (rests .entry)) (now (queue .entry)) (now (last .entry))) (now (words .entry)) (lentState (now (ends .exit)) (now (rests .exit)) (now (queue .exit)) (now (last .exit))) (now (words .exit)) r ⌝ }
 {
     let mut answer: u64 = 0;
     let mut ending: u64 = 0;
@@ -49,11 +49,11 @@ pub fn run_loaded(
     let records = run(
         first_records(),
         header.budget as u64,
-        job64,
-        job32,
-        job16,
-        job8,
-        weights,
+        j64,
+        j32,
+        j16,
+        j8,
+        jf,
         ends,
         rests,
         queue,

@@ -104,14 +104,14 @@ module _ (s : List ℕ) (at : ℕ) {p : Parsed Job} {t : FirstTables} {rs : List
 
 pub all-read :
     (s : List ℕ) (at : ℕ) {p : Parsed Job} {t : FirstTables} {es : List Entry → Type 0} (B B′ : JobSlices) {h b : List ℕ}
-    → FirstOut s p (IsFirst t at) (λ rs. Stored (λ x. x) (B .job64) 0 rs (B′ .job64)) (ClassesAt (B .job16) (B .job8) h b) es
+    → FirstOut s p (IsFirst t at) (λ rs. Stored (λ x. x) (B .j64) 0 rs (B′ .j64)) (ClassesAt (B .j16) (B .j8) h b) es
     → (next : ℕ) {v n g : ℕ} (r : JobRead)
     → TableOut s (tableOf (bit 3 (t .map)) 2 512 (virtRegAfter (t .regs) (t .classes)) (drop at s)) (IsTable v n g next)
-    (VirtsAt (B .job32) h b (B .weights) (B′ .job32) (B′ .job16) (B′ .job8) (B′ .weights))
+    (VirtsAt (B .j32) h b (B .jf) (B′ .j32) (B′ .j16) (B′ .j8) (B′ .jf))
     → LastOut s next t v g r
     → JobOut s p r (JobAt B B′ es)
 all-read s at B B′ w next r x o =
-    let eh = w .6 .starts .is ∙ ap (λ (l : List ℕ). sets (B .job16) 0 l) (map-id (startsFrom length 0 (w .1))) in
-    let eb = w .6 .members .is ∙ ap (λ (l : List ℕ). sets (B .job8) 0 l) (map-id (allMembers (w .1))) in
+    let eh = w .6 .starts .is ∙ ap (λ (l : List ℕ). sets (B .j16) 0 l) (map-id (startsFrom length 0 (w .1))) in
+    let eb = w .6 .members .is ∙ ap (λ (l : List ℕ). sets (B .j8) 0 l) (map-id (allMembers (w .1))) in
     job-out (w .4) (drop at s) (x .1) s next r refl (w .3) (x .2) (x .4)
-    (λ q b. record { regs = w .5 .is ∙ ap (λ (l : List ℕ). sets (B .job64) 0 l) (map-id (w .0)); virtRegs = rw (eh, eb) at (x .7); reserved = w .7 }) o
+    (λ q b. record { regs = w .5 .is ∙ ap (λ (l : List ℕ). sets (B .j64) 0 l) (map-id (w .0)); virtRegs = rw (eh, eb) at (x .7); reserved = w .7 }) o

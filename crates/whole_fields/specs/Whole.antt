@@ -24,10 +24,10 @@ use Rattle.whole_fields.specs.Probe.{probeField, rangeOf}
 
 -- every table of the job is stored: in B, which is B′ afterwards, and the fixed reservations so
 pub record JobAt (B B′ : JobSlices) (fixed : List Entry → Type 0) (j : Job) : Type 0 where
-  pub regs : B′ .job64 ≡ sets (B .job64) 0 (j .regs)
+  pub regs : B′ .j64 ≡ sets (B .j64) 0 (j .regs)
   pub virtRegs :
-      VirtsAt (B .job32) (sets (B .job16) 0 (startsFrom length 0 (j .classes))) (sets (B .job8) 0 (allMembers (j .classes))) (B .weights)
-      (B′ .job32) (B′ .job16) (B′ .job8) (B′ .weights) (j .virtRegs)
+      VirtsAt (B .j32) (sets (B .j16) 0 (startsFrom length 0 (j .classes))) (sets (B .j8) 0 (allMembers (j .classes))) (B .jf)
+      (B′ .j32) (B′ .j16) (B′ .j8) (B′ .jf) (j .virtRegs)
   pub reserved : fixed (j .fixed)
 
 pub record SizesOf (z : TableSizes) (j : Job) : Type 0 where

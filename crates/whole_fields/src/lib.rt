@@ -82,15 +82,15 @@ pub enum FirstRead {
 // The tables before the virtual registers, stored from place 0 on: a fixed reservation as unit, start, end and use number.
 fn first_tables(
     s: &[u8],
-    job64: &mut [u64],
-    job16: &mut [u16],
-    job8: &mut [u8],
+    j64: &mut [u64],
+    j16: &mut [u16],
+    j8: &mut [u8],
     units: &mut [u8],
     starts: &mut [u32],
     stops: &mut [u32],
     uses: &mut [u32],
 ) -> FirstRead
-    ensures { λ r. ⌜ FirstOut (now (s .entry)) (jobFields (now (s .entry))) r (λ rs. Stored (λ x. x) (now (job64 .entry)) 0 rs (now (job64 .exit))) (ClassesAt (now (job16 .entry)) (now (job8 .entry)) (now (job16 .exit)) (now (job8 .exit))) (FixedAt (now (units .entry)) (now (starts .entry)) (now (stops .entry)) (now (uses .entry)) (now (units .exit)) (now (starts .exit)) (now (stops .exit)) (now (uses .exit))) ⌝ }
+    ensures { λ r. ⌜ FirstOut (now (s .entry)) (jobFields (now (s .entry))) r (λ rs. Stored (λ x. x) (now (j64 .entry)) 0 rs (now (j64 .exit))) (ClassesAt (now (j16 .entry)) (now (j8 .entry)) (now (j16 .exit)) (now (j8 .exit))) (FixedAt (now (units .entry)) (now (starts .entry)) (now (stops .entry)) (now (uses .entry)) (now (units .exit)) (now (starts .exit)) (now (stops .exit)) (now (uses .exit))) ⌝ }
 {
     let Read::Value(m, at1) = byte(s, 0) else {
         return FirstRead::Refused(1);
@@ -98,10 +98,10 @@ fn first_tables(
     if 64 <= m {
         return FirstRead::Refused(3);
     }
-    match reg_table(s, at1, m / 1 % 2 == 1, job64) {
+    match reg_table(s, at1, m / 1 % 2 == 1, j64) {
         Number::Refused(n) => FirstRead::Refused(n),
         Number::Is(rn, at2) => {
-            match class_table(s, at2, m / 2 % 2 == 1, rn as u8, job16, job8) {
+            match class_table(s, at2, m / 2 % 2 == 1, rn as u8, j16, j8) {
                 ClassesRead::Refused(n) => FirstRead::Refused(n),
                 ClassesRead::Is(cn, _, at3) => {
                     match fixed_table(s, at3, m / 4 % 2 == 1, units, starts, stops, uses) {
@@ -154,19 +154,19 @@ fn last_fields(s: &[u8], at: usize, t: FirstTables, vn: u16, gn: u64) -> JobRead
 // end and use number.
 pub fn job_fields(
     s: &[u8],
-    job64: &mut [u64],
-    job32: &mut [u32],
-    job16: &mut [u16],
-    job8: &mut [u8],
-    weights: &mut [f32],
+    j64: &mut [u64],
+    j32: &mut [u32],
+    j16: &mut [u16],
+    j8: &mut [u8],
+    jf: &mut [f32],
     units: &mut [u8],
     starts: &mut [u32],
     stops: &mut [u32],
     uses: &mut [u32],
 ) -> JobRead
-    ensures { λ r. ⌜ JobOut (now (s .entry)) (jobFields (now (s .entry))) r (JobAt (slices (now (job64 .entry)) (now (job32 .entry)) (now (job16 .entry)) (now (job8 .entry)) (now (weights .entry))) (slices (now (job64 .exit)) (now (job32 .exit)) (now (job16 .exit)) (now (job8 .exit)) (now (weights .exit))) (FixedAt (now (units .entry)) (now (starts .entry)) (now (stops .entry)) (now (uses .entry)) (now (units .exit)) (now (starts .exit)) (now (stops .exit)) (now (uses .exit)))) ⌝ }
+    ensures { λ r. ⌜ JobOut (now (s .entry)) (jobFields (now (s .entry))) r (JobAt (slices (now (j64 .entry)) (now (j32 .entry)) (now (j16 .entry)) (now (j8 .entry)) (now (jf .entry))) (slices (now (j64 .exit)) (now (j32 .exit)) (now (j16 .exit)) (now (j8 .exit)) (now (jf .exit))) (FixedAt (now (units .entry)) (now (starts .entry)) (now (stops .entry)) (now (uses .entry)) (now (units .exit)) (now (starts .exit)) (now (stops .exit)) (now (uses .exit)))) ⌝ }
 {
-    match first_tables(s, job64, job16, job8, units, starts, stops, uses) {
+    match first_tables(s, j64, j16, j8, units, starts, stops, uses) {
         FirstRead::Refused(n) => JobRead::Refused(n),
         FirstRead::Is(t, at) => match virt_table(
             s,
@@ -174,10 +174,10 @@ pub fn job_fields(
             t.map / 8 % 2 == 1,
             t.regs,
             t.classes,
-            job32,
-            job16,
-            job8,
-            weights,
+            j32,
+            j16,
+            j8,
+            jf,
         ) {
             VirtTable::Refused(n) => JobRead::Refused(n),
             VirtTable::Is(vn, _, gn, next) => last_fields(s, next, t, vn, gn),

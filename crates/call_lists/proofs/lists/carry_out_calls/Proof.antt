@@ -11,10 +11,10 @@ use Rattle.call_lists.proofs.lists.carry_out_calls.Statement.{statement
 use Rattle.call_lists.proofs.lists.carry_out_calls.Tie as tie
 
 abbrev Inv-loop : tie.InvT-loop
-Inv-loop header list job64 job32 job16 job8 weights ends₀ rests₀ queue₀ last₀ answers₀ done all₀ from₀ to₀ calls₀ ends rests queue last answers all from to calls = laws.ListTo header (slices job64 job32 job16 job8 weights) list from to calls (lentState ends₀ rests₀ queue₀ last₀) all₀ answers₀ (lentState ends rests queue last) all answers × (length ends ≡ length ends₀) × (length rests ≡ length rests₀) × (length queue ≡ length queue₀) × (length last ≡ length last₀) × (length answers ≡ length answers₀) × (length all ≡ 512)
+Inv-loop header list j64 j32 j16 j8 jf ends₀ rests₀ queue₀ last₀ answers₀ done all₀ from₀ to₀ calls₀ ends rests queue last answers all from to calls = laws.ListTo header (slices j64 j32 j16 j8 jf) list from to calls (lentState ends₀ rests₀ queue₀ last₀) all₀ answers₀ (lentState ends rests queue last) all answers × (length ends ≡ length ends₀) × (length rests ≡ length rests₀) × (length queue ≡ length queue₀) × (length last ≡ length last₀) × (length answers ≡ length answers₀) × (length all ≡ 512)
 
 abbrev μ-loop : tie.MeasureT-loop
-μ-loop header list job64 job32 job16 job8 weights ends₀ rests₀ queue₀ last₀ answers₀ done all₀ from₀ to₀ calls₀ ends rests queue last answers all from to calls = length list - from
+μ-loop header list j64 j32 j16 j8 jf ends₀ rests₀ queue₀ last₀ answers₀ done all₀ from₀ to₀ calls₀ ends rests queue last answers all from to calls = length list - from
 
 loop-holds : tie.Need-loop-holds Inv-loop μ-loop
 loop-holds c = (laws.list-start _ _ (c .before .before .before .before .before .before .before .before .before .before .before .args .list .now) _ _ _, refl, refl, refl, refl, refl, search needs)

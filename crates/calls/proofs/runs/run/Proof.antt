@@ -60,7 +60,7 @@ returns-2 : tie.Need-returns-2
 returns-2 c =
     let a = c .before .before .before .before .before .before .before .before .before .before .before .before .before .before .before .before .before .before .before .before .before .before .before .before .before .before .before .before .before .before .before .before .before .before .before .before .args in
     run-carried _ _ _ _ _ _ _ _ _ (sym (c .before .before .before .before .before .before .before .before .before .before .before .before .before .before .before .before .before .before .before .before .before .before .before .before .before .before .short-buffers .ensures) ∙ c .before .before .before .before .before .before .before .before .before .before .before .before .before .before .before .before .before .before .before .before .before .before .before .before .before .if1 .left)
-    (lists-taken (slices (a .job64 .now) (a .job32 .now) (a .job16 .now) (a .job8 .now) (a .weights .now)) (c .before .before .before .before .before .before .before .before .before .before .before .before .before .before .before .before .before .before .before .before .before .before .before .before .from .ensures) (c .before .before .before .before .before .before .before .before .before .before .before .before .before .before .before .before .before .before .before .before .before .before .before .from8 .ensures) (c .before .before .before .before .before .before .before .before .before .before .before .before .before .before .before .before .before .before .before .before .before .before .from16 .ensures) (c .before .before .before .before .before .before .before .before .before .before .before .before .before .before .before .before .before .before .before .before .before .from32 .ensures) (c .before .before .before .before .before .before .before .before .before .before .before .before .before .before .before .before .before .before .before .before .from162 .ensures) (c .before .before .before .before .before .before .before .before .before .before .before .before .before .before .before .before .before .before .before .from82 .ensures) (c .before .before .before .before .before .before .before .before .before .before .before .before .before .before .before .before .before .before .from-float .ensures) (c .before .before .before .before .before .before .before .before .before .before .before .before .before .before .before .before .before .from163 .ensures) (c .before .before .before .before .before .before .before .before .before .before .before .before .before .before .before .before .from322 .ensures) (c .before .before .before .before .before .before .before .before .before .before .before .before .before .before .before .from164 .ensures)) (c .before .before .before .before .before .before .before .before .run-on .ensures)
+    (lists-taken (slices (a .j64 .now) (a .j32 .now) (a .j16 .now) (a .j8 .now) (a .jf .now)) (c .before .before .before .before .before .before .before .before .before .before .before .before .before .before .before .before .before .before .before .before .before .before .before .before .from .ensures) (c .before .before .before .before .before .before .before .before .before .before .before .before .before .before .before .before .before .before .before .before .before .before .before .from8 .ensures) (c .before .before .before .before .before .before .before .before .before .before .before .before .before .before .before .before .before .before .before .before .before .before .from16 .ensures) (c .before .before .before .before .before .before .before .before .before .before .before .before .before .before .before .before .before .before .before .before .before .from32 .ensures) (c .before .before .before .before .before .before .before .before .before .before .before .before .before .before .before .before .before .before .before .before .from162 .ensures) (c .before .before .before .before .before .before .before .before .before .before .before .before .before .before .before .before .before .before .before .from82 .ensures) (c .before .before .before .before .before .before .before .before .before .before .before .before .before .before .before .before .before .before .from-float .ensures) (c .before .before .before .before .before .before .before .before .before .before .before .before .before .before .before .before .before .from163 .ensures) (c .before .before .before .before .before .before .before .before .before .before .before .before .before .before .before .before .from322 .ensures) (c .before .before .before .before .before .before .before .before .before .before .before .before .before .before .before .from164 .ensures)) (c .before .before .before .before .before .before .before .before .run-on .ensures)
 
 pub run-spec : {M : Type 1} → statement M
 run-spec =

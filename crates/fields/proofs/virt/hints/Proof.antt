@@ -14,10 +14,10 @@ use Rattle.fields.proofs.virt.hints.Statement.{statement}
 use Rattle.fields.proofs.virt.hints.Tie as tie
 
 abbrev Inv-loop : tie.InvT-loop
-Inv-loop s start count regs h job8₀ weights₀ at₀ i₀ job8 weights at i = (before : List Hint) × Reading s (λ before. hint regs) count start i at before × HintsAt h job8₀ weights₀ job8 weights before
+Inv-loop s start count regs h j8₀ jf₀ at₀ i₀ j8 jf at i = (before : List Hint) × Reading s (λ before. hint regs) count start i at before × HintsAt h j8₀ jf₀ j8 jf before
 
 abbrev μ-loop : tie.MeasureT-loop
-μ-loop s start count regs h job8₀ weights₀ at₀ i₀ job8 weights at i = count - i
+μ-loop s start count regs h j8₀ jf₀ at₀ i₀ j8 jf at i = count - i
 
 loop-holds : tie.Need-loop-holds Inv-loop μ-loop
 loop-holds c = ([], begin, record { regs = none-stored; weights = none-stored })

@@ -17,10 +17,10 @@ use Rattle.fields.proofs.virt.segments.Statement.{statement}
 use Rattle.fields.proofs.virt.segments.Tie as tie
 
 abbrev Inv-loop : tie.InvT-loop
-Inv-loop s start count g job32₀ job16₀ at₀ past₀ i₀ job32 job16 at past i = (before : List ValueSegment) × Reading s segment count start i at before × (past ≡ pastOf before) × SegmentsAt g job32₀ job16₀ job32 job16 before
+Inv-loop s start count g j32₀ j16₀ at₀ past₀ i₀ j32 j16 at past i = (before : List ValueSegment) × Reading s segment count start i at before × (past ≡ pastOf before) × SegmentsAt g j32₀ j16₀ j32 j16 before
 
 abbrev μ-loop : tie.MeasureT-loop
-μ-loop s start count g job32₀ job16₀ at₀ past₀ i₀ job32 job16 at past i = count - i
+μ-loop s start count g j32₀ j16₀ at₀ past₀ i₀ j32 j16 at past i = count - i
 
 loop-holds : tie.Need-loop-holds Inv-loop μ-loop
 unfolding pastOf foldl

@@ -12,10 +12,10 @@ use Rattle.fields.proofs.virt.virt_regs.Statement.{statement}
 use Rattle.fields.proofs.virt.virt_regs.Tie as tie
 
 abbrev Inv-loop : tie.InvT-loop
-Inv-loop s start count regs classes job32₀ job16₀ job8₀ weights₀ at₀ h₀ g₀ i₀ job32 job16 job8 weights at h g i = SoFar s count start regs classes job32₀ job16₀ job8₀ weights₀ job32 job16 job8 weights at h g i
+Inv-loop s start count regs classes j32₀ j16₀ j8₀ jf₀ at₀ h₀ g₀ i₀ j32 j16 j8 jf at h g i = SoFar s count start regs classes j32₀ j16₀ j8₀ jf₀ j32 j16 j8 jf at h g i
 
 abbrev μ-loop : tie.MeasureT-loop
-μ-loop s start count regs classes job32₀ job16₀ job8₀ weights₀ at₀ h₀ g₀ i₀ job32 job16 job8 weights at h g i = count - i
+μ-loop s start count regs classes j32₀ j16₀ j8₀ jf₀ at₀ h₀ g₀ i₀ j32 j16 j8 jf at h g i = count - i
 
 loop-holds : tie.Need-loop-holds Inv-loop μ-loop
 loop-holds c = virts-begun _ _ _ _ _ _ _ _ _

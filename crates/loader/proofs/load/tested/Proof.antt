@@ -98,7 +98,7 @@ same-length-8 : tie.Need-same-length-8
 same-length-8 c = c .before .before .before .before .before .before .before .before .before .before .before .before .before .before .before .before .before .before .before .before .before .before .uses .given
 
 returns-2 : tie.Need-returns-2
-returns-2 c = none-out _ (λ i. c .before .before .before .before .before .before .before .before .before .before .before .before .before .before .before .before .before .before .before .before .before .before .before .before .before .before .before .before .before .before .before .before .before .before .before .before .before .before .before .before .before .before .before .before .before .before .before .before .shared-slice-known .given i .fits) (slices _ _ _ _ _) (slices _ _ _ _ _) (rw (c .before .before .before .before .before .before .before .before .before .before .before .before .before .before .before .before .before .before .before .h .given .1) at (c .before .before .before .before .before .before .before .before .before .before .before .before .before .before .before .before .before .before .before .before .before .before .before .before .before .before .before .before .before .before .before .before .before .before .job-fields .ensures)) (record { job64 = omega (arith, length-replicate {A = ℕ} 64 0); job32 = omega (arith, length-replicate {A = ℕ} 1024 0); job16 = omega (arith, length-replicate {A = ℕ} 1041 0); job8 = omega (arith, length-replicate {A = ℕ} 1536 0) }) (c .before .before .before .before .before .before .before .before .before .before .before .before .before .before .before .before .before .before .before .before .before .before .before .before .before .before .before .before .before .before .before .before .before .before .before .before .before .before .before .before .before .before .before .before .before .before .before .before .before .pre) (c .before .before .before .before .before .before .before .before .before .before .before .before .before .before .before .before .before .if1 .left) (rw (c .before .before .before .before .before .before .before .before .before .before .before .before .from8 .ensures, c .before .before .before .before .before .before .before .before .before .before .from16 .ensures, c .before .before .before .before .before .before .before .from32 .ensures, c .before .before .before .before .before .from162 .ensures) at (c .before .whole-refusal .ensures)) (c .if2 .taken)
+returns-2 c = none-out _ (λ i. c .before .before .before .before .before .before .before .before .before .before .before .before .before .before .before .before .before .before .before .before .before .before .before .before .before .before .before .before .before .before .before .before .before .before .before .before .before .before .before .before .before .before .before .before .before .before .before .before .shared-slice-known .given i .fits) (slices _ _ _ _ _) (slices _ _ _ _ _) (rw (c .before .before .before .before .before .before .before .before .before .before .before .before .before .before .before .before .before .before .before .h .given .1) at (c .before .before .before .before .before .before .before .before .before .before .before .before .before .before .before .before .before .before .before .before .before .before .before .before .before .before .before .before .before .before .before .before .before .before .job-fields .ensures)) (record { j64 = omega (arith, length-replicate {A = ℕ} 64 0); j32 = omega (arith, length-replicate {A = ℕ} 1024 0); j16 = omega (arith, length-replicate {A = ℕ} 1041 0); j8 = omega (arith, length-replicate {A = ℕ} 1536 0) }) (c .before .before .before .before .before .before .before .before .before .before .before .before .before .before .before .before .before .before .before .before .before .before .before .before .before .before .before .before .before .before .before .before .before .before .before .before .before .before .before .before .before .before .before .before .before .before .before .before .before .pre) (c .before .before .before .before .before .before .before .before .before .before .before .before .before .before .before .before .before .if1 .left) (rw (c .before .before .before .before .before .before .before .before .before .before .before .before .from8 .ensures, c .before .before .before .before .before .before .before .before .before .before .from16 .ensures, c .before .before .before .before .before .before .before .from32 .ensures, c .before .before .before .before .before .from162 .ensures) at (c .before .whole-refusal .ensures)) (c .if2 .taken)
 
 same-length-9 : tie.Need-same-length-9
 same-length-9 c = c .before .before .before .before .before .before .before .before .before .before .units .given
@@ -128,7 +128,7 @@ same-length-16 : tie.Need-same-length-16
 same-length-16 c = c .before .before .before .before .before .before .before .before .before .before .before .before .before .before .before .before .before .before .before .before .before .before .uses .given
 
 returns-4 : tie.Need-returns-4
-returns-4 c = one-out _ (λ i. c .before .before .before .before .before .before .before .before .before .before .before .before .before .before .before .before .before .before .before .before .before .before .before .before .before .before .before .before .before .before .before .before .before .before .before .before .before .before .before .before .before .before .before .before .before .before .before .before .shared-slice-known .given i .fits) (slices _ _ _ _ _) (slices _ _ _ _ _) (rw (c .before .before .before .before .before .before .before .before .before .before .before .before .before .before .before .before .before .before .before .h .given .1) at (c .before .before .before .before .before .before .before .before .before .before .before .before .before .before .before .before .before .before .before .before .before .before .before .before .before .before .before .before .before .before .before .before .before .before .job-fields .ensures)) (record { job64 = omega (arith, length-replicate {A = ℕ} 64 0); job32 = omega (arith, length-replicate {A = ℕ} 1024 0); job16 = omega (arith, length-replicate {A = ℕ} 1041 0); job8 = omega (arith, length-replicate {A = ℕ} 1536 0) }) (c .before .before .before .before .before .before .before .before .before .before .before .before .before .before .before .before .before .before .before .before .before .before .before .before .before .before .before .before .before .before .before .before .before .before .before .before .before .before .before .before .before .before .before .before .before .before .before .before .before .pre) (c .before .before .before .before .before .before .before .before .before .before .before .before .before .before .before .before .before .if1 .left) (rw (c .before .before .before .before .before .before .before .before .before .before .before .before .from8 .ensures, c .before .before .before .before .before .before .before .before .before .before .from16 .ensures, c .before .before .before .before .before .before .before .from32 .ensures, c .before .before .before .before .before .from162 .ensures) at (c .before .whole-refusal .ensures)) (c .if2 .left)
+returns-4 c = one-out _ (λ i. c .before .before .before .before .before .before .before .before .before .before .before .before .before .before .before .before .before .before .before .before .before .before .before .before .before .before .before .before .before .before .before .before .before .before .before .before .before .before .before .before .before .before .before .before .before .before .before .before .shared-slice-known .given i .fits) (slices _ _ _ _ _) (slices _ _ _ _ _) (rw (c .before .before .before .before .before .before .before .before .before .before .before .before .before .before .before .before .before .before .before .h .given .1) at (c .before .before .before .before .before .before .before .before .before .before .before .before .before .before .before .before .before .before .before .before .before .before .before .before .before .before .before .before .before .before .before .before .before .before .job-fields .ensures)) (record { j64 = omega (arith, length-replicate {A = ℕ} 64 0); j32 = omega (arith, length-replicate {A = ℕ} 1024 0); j16 = omega (arith, length-replicate {A = ℕ} 1041 0); j8 = omega (arith, length-replicate {A = ℕ} 1536 0) }) (c .before .before .before .before .before .before .before .before .before .before .before .before .before .before .before .before .before .before .before .before .before .before .before .before .before .before .before .before .before .before .before .before .before .before .before .before .before .before .before .before .before .before .before .before .before .before .before .before .before .pre) (c .before .before .before .before .before .before .before .before .before .before .before .before .before .before .before .before .before .if1 .left) (rw (c .before .before .before .before .before .before .before .before .before .before .before .before .from8 .ensures, c .before .before .before .before .before .before .before .before .before .before .from16 .ensures, c .before .before .before .before .before .before .before .from32 .ensures, c .before .before .before .before .before .from162 .ensures) at (c .before .whole-refusal .ensures)) (c .if2 .left)
 
 pub tested-spec : {M : Type 1} → statement M
 tested-spec =

@@ -6,10 +6,10 @@ use Rattle.scripts.proofs.making.make_calls.Statement.{statement}
 use Rattle.scripts.proofs.making.make_calls.Tie as tie
 
 abbrev Inv-loop : tie.InvT-loop
-Inv-loop header left₀ job64 job32 job16 job8 weights ends₀ rests₀ queue₀ last₀ line₀ all₀ turns₀ left ends rests queue last line all turns = (length ends ≡ length ends₀) × (length rests ≡ length rests₀) × (length queue ≡ length queue₀) × (length last ≡ length last₀) × (length line ≡ length line₀) × (length all ≡ 512)
+Inv-loop header left₀ j64 j32 j16 j8 jf ends₀ rests₀ queue₀ last₀ line₀ all₀ turns₀ left ends rests queue last line all turns = (length ends ≡ length ends₀) × (length rests ≡ length rests₀) × (length queue ≡ length queue₀) × (length last ≡ length last₀) × (length line ≡ length line₀) × (length all ≡ 512)
 
 abbrev μ-loop : tie.MeasureT-loop
-μ-loop header left₀ job64 job32 job16 job8 weights ends₀ rests₀ queue₀ last₀ line₀ all₀ turns₀ left ends rests queue last line all turns = turns
+μ-loop header left₀ j64 j32 j16 j8 jf ends₀ rests₀ queue₀ last₀ line₀ all₀ turns₀ left ends rests queue last line all turns = turns
 
 loop-holds : tie.Need-loop-holds Inv-loop μ-loop
 loop-holds c = (refl, refl, refl, refl, refl, search needs)
