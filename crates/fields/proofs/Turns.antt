@@ -124,7 +124,7 @@ virts-more s count start regs classes at hn gn i k l next fs {w} {h} {b} {f} v l
             more-8 b _ _ (map (λ (y : Hint). y .reg) (x .hints)) (fs .class) (simp length-map (v .2)) (simp length-map n) (omega arith) (rw (a .j8) at (o .5 .regs .is)) (p .class)
             ∙ rw (one-more (λ (v : VirtReg). v .class) vs x (o .2 .class), all-more (λ (v : VirtReg). v .hints) (λ (y : Hint). y .reg) vs x);
         jf =
-            more-weights f _ _ (map (λ (y : Hint). y .weight) (x .hints)) (fs .«spill_weight») (simp length-map (v .2)) (simp length-map n) (omega arith) (rw (a .jf) at (o .5 .jf .is)) (p .spillWeight)
+            more-weights f _ _ (map (λ (y : Hint). y .weight) (x .hints)) (fs .«spill_weight») (simp length-map (v .2)) (simp length-map n) (omega arith) (rw (a .jf) at (o .5 .weights .is)) (p .spillWeight)
             ∙ rw (one-more (λ (v : VirtReg). v .spillWeight) vs x (o .2 .spillWeight), all-more (λ (v : VirtReg). v .hints) (λ (y : Hint). y .weight) vs x);
       },
     )
