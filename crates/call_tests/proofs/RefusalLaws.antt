@@ -143,20 +143,19 @@ pub has-all : (r : ℕ) (xs ys : List ℕ) → xs ≡ ys → has r (take (length
 has-all r xs ys e = ap (has r) (take-all (length xs) xs (omega arith) ∙ e)
 
 -- by what the code finds
-module _ (cs cr classes sets starts hints : List ℕ) (n v r kind : ℕ) (class : List ℕ) (h : Bool)
-    (pk : kind ≡ getD classes v 0) (pc : class ≡ shareOf cs kind cr) (ph : h ≡ has r (take (length class) class)) where
-  class-names : h ≡ has r (shareOf cs (getD classes v 0) cr)
-  class-names = ph ∙ has-all r class _ pc ∙ ap (λ (k : ℕ). has r (shareOf cs k cr)) pk
+module _ (B : JobBuffers) (n v r : ℕ) (class : List ℕ) (h : Bool) (pc : class ≡ classIn B v) (ph : h ≡ has r (take (length class) class)) where
+  class-names : h ≡ has r (classIn B v)
+  class-names = ph ∙ has-all r class _ pc
 
-  pub named-class : h ≡ true → true ≡ namedIn cs cr classes sets starts hints n v r
+  pub named-class : h ≡ true → true ≡ namedIn (B .classStarts) (B .classRegs) (B .classes) (B .valueSets) (B .hintStarts) (B .hintRegs) n v r
   unfolding namedIn
   named-class e = rw (← class-names, e)
 
   pub named-sets :
-      h ≡ false → (t : ℕ) (x : Bool) → t ≡ getD sets v 0 → x ≡ any (hintedAt sets starts hints t r) (count 0 n)
-      → x ≡ namedIn cs cr classes sets starts hints n v r
+      h ≡ false → (t : ℕ) (x : Bool) → t ≡ getD (B .valueSets) v 0 → x ≡ any (hintedAt (B .valueSets) (B .hintStarts) (B .hintRegs) t r) (count 0 n)
+      → x ≡ namedIn (B .classStarts) (B .classRegs) (B .classes) (B .valueSets) (B .hintStarts) (B .hintRegs) n v r
   unfolding namedIn
-  named-sets e t x pt px = rw (← class-names, e) (px ∙ ap (λ (t : ℕ). any (hintedAt sets starts hints t r) (count 0 n)) pt)
+  named-sets e t x pt px = rw (← class-names, e) (px ∙ ap (λ (t : ℕ). any (hintedAt (B .valueSets) (B .hintStarts) (B .hintRegs) t r) (count 0 n)) pt)
 
 has-any : (r : ℕ) (hs : List Hint) → has r (map (λ (h : Hint). h .reg) hs) ≡ any (λ h. eqb (h .reg) r) hs
 unfolding has any
@@ -175,7 +174,7 @@ module _ (j : Job) (s : State) (g : Good j s) (B : JobBuffers) (R : JobReads j B
     pub named-read :
         (r : ℕ)
         → namedIn (B .classStarts) (B .classRegs) (B .classes) (B .valueSets) (B .hintStarts) (B .hintRegs) (length (j .virtRegs)) v r ≡ named j v r
-    unfolding namedIn named classIn virtReg
+    unfolding namedIn named virtReg
     named-read r =
         ap₂ _||_ (ap (has r) (class-is j s g B R v b))
         (any-at noVirtReg (λ x. eqb (x .valueSet) (virtReg j v .valueSet) && any (λ h. eqb (h .reg) r) (x .hints))

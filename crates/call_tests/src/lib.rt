@@ -3,31 +3,28 @@ ghost use mathlib.Core.Path.{_≡_};
 ghost use mathlib.Core.Bool.{_||_};
 ghost use mathlib.Core.List.{[], _∷_};
 ghost use lib.Dec.{ltb, leb};
+ghost use lib.ListN.{length};
 ghost use Rattle.reg_matrix.specs.Lists.{any, count};
 ghost use Rattle.reg_matrix.specs.Refusals.{refusal, shortBuffer};
 ghost use Rattle.matrix.specs.Walk.{refusalNumber as numberOf};
 ghost use Rattle.allocator.specs.Layout.{stageLimits};
 ghost use Rattle.job.specs.Layout.{slices};
-ghost use Rattle.call_tests.specs.Testing.{isFree, hintedAt, namedIn, namedTo, unknownIn, clearTo, placeTests, evictTests};
+ghost use Rattle.call_tests.specs.Testing.{isFree, hintedAt, namedTo, unknownIn, clearTo, placeTests, evictTests};
 use allocator::Assignment;
+use decisions::parts::class_of;
+use decisions::parts::froms_of;
 use decisions::parts::of8;
-use decisions::parts::of16;
-use decisions::parts::of32;
-use job::CLASSES;
+use decisions::parts::tos_of;
+use decisions::parts::values_of;
 use job::HINT_REGS;
 use job::HINT_STARTS;
-use job::SEGMENT_STARTS;
 use job::SETS;
-use job::TOS;
 use job::USES;
-use job::VALUES;
 use lent::at;
-use lent::at8;
 use lent::at16;
 use lent::from;
 use lent::from8;
 use lent::from16;
-use lent::from32;
 use order::has_reg;
 use records::assignment::is_assigned;
 use stage::allocate::is_clear;
@@ -42,29 +39,29 @@ fn or_short(size: usize, limit: usize, other: bool) -> bool
     other
 }
 
-// Whether one of the sizes lent to a call is below its limit. They come in the limits' order, and are tested from the last.
+// Whether one of the buffers lent to a call is below its limit. They come in the limits' order, and are tested from the last.
 pub fn short_buffers(
-    j64: usize,
-    j32: usize,
-    j16: usize,
-    j8: usize,
-    jf: usize,
-    ends: usize,
-    rests: usize,
-    queue: usize,
-    last: usize,
+    j64: &[u64],
+    j32: &[u32],
+    j16: &[u16],
+    j8: &[u8],
+    jf: &[f32],
+    ends: &[u64],
+    rests: &[u64],
+    queue: &[u64],
+    last: &[u8],
 ) -> bool
-    ensures { λ r. ⌜ r ≡ shortBuffer stageLimits (j64 ∷ j32 ∷ j16 ∷ j8 ∷ jf ∷ ends ∷ rests ∷ queue ∷ last ∷ []) ⌝ }
+    ensures { λ r. ⌜ r ≡ shortBuffer stageLimits (length (now (j64 .entry)) ∷ length (now (j32 .entry)) ∷ length (now (j16 .entry)) ∷ length (now (j8 .entry)) ∷ length (now (jf .entry)) ∷ length (now (ends .entry)) ∷ length (now (rests .entry)) ∷ length (now (queue .entry)) ∷ length (now (last .entry)) ∷ []) ⌝ }
 {
-    let short = or_short(last, 512, false);
-    let short = or_short(queue, 1024, short);
-    let short = or_short(rests, 2560, short);
-    let short = or_short(ends, 2560, short);
-    let short = or_short(jf, 1536, short);
-    let short = or_short(j8, 2560, short);
-    let short = or_short(j16, 2067, short);
-    let short = or_short(j32, 1536, short);
-    or_short(j64, 576, short)
+    let short = or_short(last.len(), 512, false);
+    let short = or_short(queue.len(), 1024, short);
+    let short = or_short(rests.len(), 2560, short);
+    let short = or_short(ends.len(), 2560, short);
+    let short = or_short(jf.len(), 1536, short);
+    let short = or_short(j8.len(), 2560, short);
+    let short = or_short(j16.len(), 2067, short);
+    let short = or_short(j32.len(), 1536, short);
+    or_short(j64.len(), 576, short)
 }
 
 // Whether the number k is in the set and has a hint that names the register.
@@ -92,26 +89,18 @@ fn set_names(n: u16, set: u16, reg: u8, sets: &[u16], starts: &[u16], hints: &[u
     false
 }
 
-// Whether the class of v, or a hint of a member of its set, names the register.
-fn is_named(
-    n: u16,
-    v: u16,
-    reg: u8,
-    class_starts: &[u16],
-    class_regs: &[u8],
-    classes: &[u8],
-    sets: &[u16],
-    hint_starts: &[u16],
-    hint_regs: &[u8],
-) -> bool
-    ensures { λ r. ⌜ r ≡ namedIn (now («class_starts» .entry)) (now («class_regs» .entry)) (now (classes .entry)) (now (sets .entry)) (now («hint_starts» .entry)) (now («hint_regs» .entry)) n v reg ⌝ }
+// Whether the class of v, or a hint of a member of its set, names the register, where there are n numbers.
+fn is_named(n: u16, v: u16, reg: u8, j16: &[u16], j8: &[u8]) -> bool
+    ensures { λ r. ⌜ r ≡ namedTo (slices [] [] (now (j16 .entry)) (now (j8 .entry)) []) n v reg ⌝ }
 {
-    let kind = at8(classes, v as usize);
-    let class = of8(class_starts, kind as u16, class_regs);
+    let class = class_of(v, j16, j8);
     if has_reg(class, class.len(), reg) {
         return true;
     }
-    set_names(n, at16(sets, v as usize), reg, sets, hint_starts, hint_regs)
+    let sets = from16(j16, SETS);
+    let set = at16(sets, v as usize);
+    let starts = from16(j16, HINT_STARTS);
+    set_names(n, set, reg, sets, starts, from8(j8, HINT_REGS))
 }
 
 // Test 8 of a placement: no such number, no such register, or one that v may not have.
@@ -124,17 +113,7 @@ pub fn is_unknown(virt_regs: u16, regs: u8, v: u16, reg: u8, j16: &[u16], j8: &[
     if regs <= reg {
         return true;
     }
-    !is_named(
-        virt_regs,
-        v,
-        reg,
-        j16,
-        j8,
-        from8(j8, CLASSES),
-        from16(j16, SETS),
-        from16(j16, HINT_STARTS),
-        from8(j8, HINT_REGS),
-    )
+    !is_named(virt_regs, v, reg, j16, j8)
 }
 
 // Whether the check of v's segments on the register's units reports nothing.
@@ -150,16 +129,11 @@ pub fn is_clear_at(
     ensures { λ r. ⌜ r ≡ clearTo (slices (now (j64 .entry)) (now (j32 .entry)) (now (j16 .entry)) [] []) (now (ends .entry)) (now (rests .entry)) v reg ⌝ }
 {
     let units = at(j64, reg as usize);
-    let starts = from16(j16, SEGMENT_STARTS);
-    is_clear(
-        units,
-        ends,
-        rests,
-        from(j64, USES),
-        of32(starts, v, j32),
-        of32(starts, v, from32(j32, TOS)),
-        of16(starts, v, from16(j16, VALUES)),
-    )
+    let uses = from(j64, USES);
+    let froms = froms_of(v, j32, j16);
+    let tos = tos_of(v, j32, j16);
+    let values = values_of(v, j16);
+    is_clear(units, ends, rests, uses, froms, tos, values)
 }
 
 fn is_free(a: Assignment) -> bool

@@ -31,7 +31,8 @@ use Rattle.allocator.proofs.Records.{holder-stays, held-record, idle-record, gi
 use Rattle.stage.proofs.ReachedMoves.{evict-held}
 use Rattle.records.specs.Fields.{flagIn, regIn}
 use Rattle.context.specs.Standing.{JobStands}
-use Rattle.context.specs.Carrying.{Taken, TakenBack}
+use Rattle.context.specs.Carrying.{wideLists, Taken, TakenBack}
+use Rattle.context.proofs.CarryLaws.{evict-reads, take-reads}
 use Rattle.call_tests.specs.Testing.{clearTo, placeTests, evictTests}
 use Rattle.run_loop.specs.Running.{lentState}
 use Rattle.calls.specs.Calling.{refusalNumber, valueNumber, sizesOf, StateStands, unknownTo, placeAnswer, evictAnswer, Placed, Evicted}
@@ -160,10 +161,9 @@ module _ (header : JobHeader) (B : JobSlices) (v reg bits : ℕ) (S : StateBuffe
       nleb→lt 0x7F80_0000 bits (all-pass 9 (leb 0x7F80_0000 bits) _ (c .1) .0)
 
   module _ (z : n ≡ 0) (ends′ rests′ queue′ last′ : List ℕ)
-      (tk : Taken v reg (listsIn B .regs) (listsIn B .fixedUses) (listsIn B .valueSets) (listsIn B .segmentStarts) (listsIn B .froms) (listsIn B .tos) (S .ends) (S .rests) (S .queue) (S .last)
-      ends′ rests′ queue′ last′)
-      (f : Bool) (w : Float) (pf : f ≡ flagIn a) (pw : bits < 0x7F80_0000 → w ≡ ofBits binary32 bits)
-      (rs′ : List Assignment) (pr : rs′ ≡ set rs v (Assigned f reg w)) where
+      (tk : Taken v reg (wideLists B) (S .ends) (S .rests) (S .queue) (S .last) ends′ rests′ queue′ last′)
+      (x : Assignment) (px : bits < 0x7F80_0000 → x ≡ Assigned (flagIn a) reg (ofBits binary32 bits))
+      (rs′ : List Assignment) (pr : rs′ ≡ set rs v x) where
     given :
         (j : Job) (s : State) (t : StateBuffers) → Reached j s → JobStands j (listsIn B) → StateStands j s t S rs
         → Placeable j s (sizesOf B S) v reg (ofBits binary32 bits)
@@ -172,24 +172,14 @@ module _ (header : JobHeader) (B : JobSlices) (v reg bits : ℕ) (S : StateBuffe
         let g = good-reached j s r in
         let i = placeable-idle j s g (sizesOf B S) v reg (ofBits binary32 bits) k in
         let c = candidate reg (ofBits binary32 bits) in
-        let f-is : f ≡ flag s v = pf ∙ ap flagIn (read-record B v S rs a read j s t g jb st (k .known) ∙ idle-record j s g v i) in
+        let f-is : flagIn a ≡ flag s v = ap flagIn (read-record B v S rs a read j s t g jb st (k .known) ∙ idle-record j s g v i) in
         record {
-          stands =
-              tk .reached j s t r
-              (record {
-                regs = jb .reads .regs;
-                fixedUses = jb .reads .fixedUses;
-                valueSets = jb .reads .valueSets;
-                segmentStarts = jb .reads .segmentStarts;
-                froms-are = jb .reads .froms;
-                tos-are = jb .reads .tos;
-              })
-              (st .stands) (k .known) (k .unassigned) (k .names) (k .clear) c false refl;
+          stands = tk .reached j s t r (take-reads j B jb) (st .stands) (k .known) (k .unassigned) (k .names) (k .clear) c false refl;
           records-are =
               pr
-              ∙ ap (λ (l : List Assignment). set l v (Assigned f reg w)) (st .records-are)
-              ∙ ap (λ (b : Bool). set (records s) v (Assigned b reg w)) f-is
-              ∙ ap (λ (x : Float). set (records s) v (Assigned (flag s v) reg x)) (pw (place-weight z))
+              ∙ ap (λ (l : List Assignment). set l v x) (st .records-are)
+              ∙ ap (set (records s) v) (px (place-weight z))
+              ∙ ap (λ (b : Bool). set (records s) v (Assigned b reg (ofBits binary32 bits))) f-is
               ∙ sym (give-records j s g v (k .known) c false (i .stays));
         }
 
@@ -200,8 +190,8 @@ module _ (header : JobHeader) (B : JobSlices) (v reg bits : ℕ) (S : StateBuffe
           answer = place-decided;
           recorded =
               λ _. pr
-              ∙ ap (λ (y : Bool). set rs v (Assigned y reg w)) (pf ∙ ap flagIn read)
-              ∙ ap (λ (x : Float). set rs v (Assigned (flagIn (getD rs v Dead)) reg x)) (pw (place-weight z));
+              ∙ ap (set rs v) (px (place-weight z))
+              ∙ ap (λ (b : Assignment). set rs v (Assigned (flagIn b) reg (ofBits binary32 bits))) read;
           called =
               record {
                 short = short-placing;
@@ -267,7 +257,7 @@ module _ (header : JobHeader) (B : JobSlices) (v : ℕ) (S : StateBuffers) (rs :
       }
 
   module _ (z : n ≡ 0) (reg x : ℕ) (pg : reg ≡ regIn a) (px : x ≡ reg) (ends′ rests′ queue′ : List ℕ)
-      (tb : TakenBack v reg (listsIn B .regs) (listsIn B .fixedUses) (listsIn B .sizes) (listsIn B .hintStarts) (listsIn B .segmentStarts) (listsIn B .tos) (S .ends) (S .rests) (S .queue) ends′ rests′ queue′)
+      (tb : TakenBack v reg (wideLists B) (S .ends) (S .rests) (S .queue) ends′ rests′ queue′)
       (f : Bool) (pf : f ≡ flagIn a) (rs′ : List Assignment) (pr : rs′ ≡ set rs v (Unassigned f)) where
     lost :
         (j : Job) (s : State) (t : StateBuffers) → Reached j s → JobStands j (listsIn B) → StateStands j s t S rs
@@ -281,16 +271,7 @@ module _ (header : JobHeader) (B : JobSlices) (v : ℕ) (S : StateBuffers) (rs :
           stands =
               record {
                 moves =
-                    tb .reached j s t r
-                    (record {
-                      regs = jb .reads .regs;
-                      fixedUses = jb .reads .fixedUses;
-                      sizes-are = jb .sizes;
-                      hintStarts = jb .reads .hintStarts;
-                      segmentStarts = jb .reads .segmentStarts;
-                      tos-are = jb .reads .tos;
-                    })
-                    (st .stands .moves) c e (sym (pg ∙ ap regIn a-is));
+                    tb .reached j s t r (evict-reads j B jb) (st .stands .moves) c e (sym (pg ∙ ap regIn a-is));
                 last-is = st .stands .last-is ∙ ap (λ (l : List ℕ). l ++ t .last) (sym (lose-last j v (c .reg) s));
               };
           records-are =

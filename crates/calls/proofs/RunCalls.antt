@@ -1,34 +1,26 @@
 -- A run as a call: refused 15 it changes nothing, and else it is the rules' run. Assumes nothing.
-use Prim.Native.Nat.{ℕ}
+use Prim.Native.Nat.{ℕ, _≤_}
 use native.Mathlib.Omega.{arith}
-use mathlib.Core.Path.{_≡_, refl, sym, _∙_, subst}
-use mathlib.Core.List.{List}
+use mathlib.Core.Path.{_≡_, refl, sym, ap, _∙_, subst}
+use mathlib.Core.List.{List, map}
 use mathlib.Core.Bool.{Bool, true, false}
-use lib.Ieee.{Float}
-use lib.ListN.{drop}
+use lib.ListN.{length}
+use lib.Seq.{sets}
 use Rattle.reg_matrix.specs.Refusals.{refusal, shortBuffer}
-use Rattle.job.specs.Layout.{JobBuffers, JobSlices, listsIn}
+use Rattle.job.specs.Model.{Job}
+use Rattle.job.specs.Layout.{JobSlices, listsIn}
 use Rattle.allocator.specs.declared.Assignment.{Assignment}
 use Rattle.allocator.specs.Layout.{StateBuffers, stageLimits}
+use Rattle.allocator.specs.State.{State}
 use Rattle.allocator.specs.Calls.{refusalOf, carriedOut, after, answerOf}
-use Rattle.run_loop.specs.Running.{lentJob, RunDone}
-use Rattle.calls.specs.Calling.{sizesOf, RunCalled}
-
--- the lists that the code takes from the slices are those of the job
-pub lists-taken :
-    (B : JobSlices) {us kinds sets sizes hs hr ss ts vs : List ℕ} {hw : List Float}
-    → us ≡ drop 64 (B .j64)
-    → kinds ≡ drop 1024 (B .j8)
-    → sets ≡ drop 17 (B .j16)
-    → sizes ≡ drop 1024 (B .j32)
-    → hs ≡ drop 1041 (B .j16)
-    → hr ≡ drop 1536 (B .j8)
-    → hw ≡ drop 512 (B .jf)
-    → ss ≡ drop 1554 (B .j16)
-    → ts ≡ drop 512 (B .j32)
-    → vs ≡ drop 529 (B .j16)
-    → lentJob (B .j64) (B .j16) (B .j8) us kinds sets (B .jf) sizes hs hr hw ss (B .j32) ts vs ≡ listsIn B
-lists-taken B a b c d e f g h i k = rw (a, b, c, d, e, f, g, h, i, k)
+use Rattle.allocator.specs.Reached.{Reached}
+use Rattle.records.specs.Words.{recordWord, recordsIn, AllPlain, WordsOf}
+use Rattle.records.proofs.WordLaws.{stored-words}
+use Rattle.records.proofs.PlainRecords.{plain-records, records-length}
+use Rattle.context.specs.Standing.{JobStands}
+use Rattle.run_loop.specs.declared.RunEnd.{RunEnd}
+use Rattle.run_loop.specs.Running.{endingNumber, LentTo, RunMade}
+use Rattle.calls.specs.Calling.{sizesOf, StateStands, RunCalled}
 
 module _ (B : JobSlices) (budget : ℕ) (S : StateBuffers) (rs : List Assignment) where
   pub run-short : shortBuffer stageLimits (sizesOf B S) ≡ true → RunCalled B budget S rs S rs 15 0 0
@@ -47,14 +39,17 @@ module _ (B : JobSlices) (budget : ℕ) (S : StateBuffers) (rs : List Assignment
       }
 
   pub run-carried :
-      (S′ : StateBuffers) (rs′ : List Assignment) (ending dequeues : ℕ) (lists : JobBuffers)
+      (S′ : StateBuffers) (rs′ : List Assignment) (W₀ W W′ : List ℕ) (r : RunEnd) (ending : ℕ)
       → shortBuffer stageLimits (sizesOf B S) ≡ false
-      → lists ≡ listsIn B
-      → RunDone budget lists rs S rs′ S′ ending dequeues
-      → RunCalled B budget S rs S′ rs′ 0 ending dequeues
+      → length W₀ ≡ 512
+      → W ≡ sets W₀ 0 (map recordWord rs)
+      → (AllPlain rs → 512 ≤ length W₀ → recordsIn W ≡ rs)
+      → RunMade budget (listsIn B) S W S′ W′ r
+      → ending ≡ endingNumber (r .ending)
+      → rs′ ≡ recordsIn W′
+      → RunCalled B budget S rs S′ rs′ 0 ending (r .dequeues)
   unfolding after answerOf refusalOf refusal carriedOut
-  run-carried S′ rs′ ending dequeues lists e q d =
-      let done = subst (λ (b : JobBuffers). RunDone budget b rs S rs′ S′ ending dequeues) q d in
+  run-carried S′ rs′ W₀ W W′ r ending e long st back done pe pr =
       record {
         nothing = λ n. absurd (n refl);
         called =
@@ -64,11 +59,25 @@ module _ (B : JobSlices) (budget : ℕ) (S : StateBuffers) (rs : List Assignment
               unchanged = λ n. absurd (n refl);
               reached =
                   λ j s t reach job head st.
-                  let d = done .reached j s t reach job (st .stands) (st .records-are) in
-                  (rw e, rw e (record { stands = d .0; records-are = d .1 }));
+                  let d = done .made j s t (lent-so j s t reach job st) in
+                  (rw e, rw e (record { stands = d .0; records-are = pr ∙ d .1 .read-so }));
             };
-        ended-so = λ j s t reach job st z. let d = done .reached j s t reach job (st .stands) (st .records-are) in (d .2, d .3);
+        ended-so =
+            λ j s t reach job st z.
+            let d = done .made j s t (lent-so j s t reach job st) in
+            (pe ∙ ap endingNumber (d .2), d .3);
       }
     where
       not-both : false ≡ true → ⊥
       not-both q = subst (λ (b : Bool). elim b as (λ x. Type 0) [ true ↦ ⊥ | false ↦ ℕ ]) q 0
+
+      lent-so : (j : Job) (s : State) (t : StateBuffers) → Reached j s → JobStands j (listsIn B) → StateStands j s t S rs → LentTo j s t (listsIn B) S W
+      lent-so j s t reach job h =
+          record {
+            reached = reach;
+            job-stands = job;
+            stands = h .stands;
+            records-are =
+                subst (λ (l : List Assignment). WordsOf l W) (h .records-are)
+                (stored-words rs W₀ W (ap length (h .records-are) ∙ records-length s) long st back (rw (h .records-are) (plain-records j s reach)));
+          }

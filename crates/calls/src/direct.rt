@@ -3,8 +3,9 @@ ghost use mathlib.Core.Path.{_≡_};
 ghost use Prim.Native.Nat.{_<_};
 ghost use lib.Ieee.{binary32, ofBits};
 ghost use lib.ListN.{getD, set};
-ghost use Rattle.allocator.specs.declared.Assignment.the-variants.{Dead};
+ghost use Rattle.allocator.specs.declared.Assignment.the-variants.{Assigned, Dead};
 ghost use Rattle.job.specs.Layout.{slices};
+ghost use Rattle.records.specs.Fields.{flagIn};
 ghost use Rattle.run_loop.specs.Running.{lentState};
 ghost use Rattle.calls.specs.Calling.{placeAnswer, Placed, Evicted};
 use allocator::Assignment;
@@ -13,16 +14,7 @@ use call_tests::place_refusal;
 use call_tests::short_buffers;
 use context::carry::take;
 use context::carry::take_back;
-use job::HINT_STARTS;
 use job::JobHeader;
-use job::SEGMENT_STARTS;
-use job::SETS;
-use job::SIZES;
-use job::TOS;
-use job::USES;
-use lent::from;
-use lent::from16;
-use lent::from32;
 use records::assignment::flag_of;
 use records::assignment::reg_of;
 
@@ -66,51 +58,58 @@ fn wide(x: u8) -> u64
     x as u64
 }
 
-// The refusal of a placement, or 0. It reads, and changes nothing.
-fn place_answer(
-    a: Assignment,
-    header: JobHeader,
+// The record of a number that takes the register with the weight of these bits. It keeps its flag.
+fn placed(before: Assignment, reg: u8, weight: u32) -> Assignment
+    ensures { λ r. ⌜ (weight < 0x7F80_0000 → r ≡ Assigned (flagIn before) reg (ofBits binary32 weight)) ⌝ }
+{
+    Assignment::Assigned {
+        evicted_for_preference: flag_of(before),
+        reg,
+        preference_weight: weight_of(weight),
+    }
+}
+
+// A placement that is asked for: of v in the register, with the weight of these binary32 bits.
+struct Placement {
     v: u16,
     reg: u8,
     weight: u32,
-    j64: &[u64],
-    j32: &[u32],
-    j16: &[u16],
-    j8: &[u8],
-    jf: &[f32],
-    ends: &[u64],
-    rests: &[u64],
-    queue: &[u64],
-    last: &[u8],
-) -> u64
-    ensures { λ r. ⌜ r ≡ placeAnswer header (slices (now (j64 .entry)) (now (j32 .entry)) (now (j16 .entry)) (now (j8 .entry)) (now (jf .entry))) v reg weight (lentState (now (ends .entry)) (now (rests .entry)) (now (queue .entry)) (now (last .entry))) a ⌝ }
-{
-    let short = short_buffers(
-        j64.len(),
-        j32.len(),
-        j16.len(),
-        j8.len(),
-        jf.len(),
-        ends.len(),
-        rests.len(),
-        queue.len(),
-        last.len(),
-    );
-    place_refusal(
-        short,
-        a,
-        header.virt_regs,
-        header.regs,
-        v,
-        reg,
-        weight,
-        j64,
-        j32,
-        j16,
-        j8,
-        ends,
-        rests,
-    )
+}
+
+impl Placement {
+    // Its refusal, or 0, where `a` is the record of v. It reads, and changes nothing.
+    fn refusal(
+        self,
+        a: Assignment,
+        header: JobHeader,
+        j64: &[u64],
+        j32: &[u32],
+        j16: &[u16],
+        j8: &[u8],
+        jf: &[f32],
+        ends: &[u64],
+        rests: &[u64],
+        queue: &[u64],
+        last: &[u8],
+    ) -> u64
+        ensures { λ r. ⌜ r ≡ placeAnswer header (slices (now (j64 .entry)) (now (j32 .entry)) (now (j16 .entry)) (now (j8 .entry)) (now (jf .entry))) (self .v) (self .reg) (self .weight) (lentState (now (ends .entry)) (now (rests .entry)) (now (queue .entry)) (now (last .entry))) a ⌝ }
+    {
+        place_refusal(
+            short_buffers(j64, j32, j16, j8, jf, ends, rests, queue, last),
+            a,
+            header.virt_regs,
+            header.regs,
+            self.v,
+            self.reg,
+            self.weight,
+            j64,
+            j32,
+            j16,
+            j8,
+            ends,
+            rests,
+        )
+    }
 }
 
 // Places v in the register, with the weight of these binary32 bits: its segments go into the table, it leaves the queue, its record says so and keeps
@@ -137,47 +136,14 @@ pub fn assign(
     ensures { λ r. ⌜ Placed header (slices (now (j64 .entry)) (now (j32 .entry)) (now (j16 .entry)) (now (j8 .entry)) (now (jf .entry))) v reg weight (lentState (now (ends .entry)) (now (rests .entry)) (now (queue .entry)) (now (last .entry))) records (lentState (now (ends .exit)) (now (rests .exit)) (now (queue .exit)) (now (last .exit))) r (now (answer .exit)) ⌝ }
 {
     let a = record_at(records, v);
-    let refusal = place_answer(
-        a,
-        header,
-        v,
-        reg,
-        weight,
-        j64,
-        j32,
-        j16,
-        j8,
-        jf,
-        ends,
-        rests,
-        queue,
-        last,
-    );
+    let asked = Placement { v, reg, weight };
+    let refusal = asked.refusal(a, header, j64, j32, j16, j8, jf, ends, rests, queue, last);
     *answer = refusal;
     if refusal != 0 {
         return records;
     }
-    take(
-        v,
-        reg,
-        j64,
-        from(j64, USES),
-        from16(j16, SETS),
-        from16(j16, SEGMENT_STARTS),
-        j32,
-        from32(j32, TOS),
-        ends,
-        rests,
-        queue,
-        last,
-    );
-    let flag = flag_of(a);
-    let placed = Assignment::Assigned {
-        evicted_for_preference: flag,
-        reg,
-        preference_weight: weight_of(weight),
-    };
-    with_record(records, v, placed)
+    take(v, reg, j64, j32, j16, ends, rests, queue, last);
+    with_record(records, v, placed(a, reg, weight))
 }
 
 // Evicts v: its entries leave the table, it is queued at stage Evict, and its record says so and keeps its flag. The records afterwards; `answer` is 0
@@ -202,17 +168,7 @@ pub fn evict(
     ensures { λ r. ⌜ Evicted header (slices (now (j64 .entry)) (now (j32 .entry)) (now (j16 .entry)) (now (j8 .entry)) (now (jf .entry))) v (lentState (now (ends .entry)) (now (rests .entry)) (now (queue .entry)) (now (last .entry))) records (lentState (now (ends .exit)) (now (rests .exit)) (now (queue .exit)) (now (last .entry))) r (now (answer .exit)) (now (taken .exit)) ⌝ }
 {
     let a = record_at(records, v);
-    let short = short_buffers(
-        j64.len(),
-        j32.len(),
-        j16.len(),
-        j8.len(),
-        jf.len(),
-        ends.len(),
-        rests.len(),
-        queue.len(),
-        last.len(),
-    );
+    let short = short_buffers(j64, j32, j16, j8, jf, ends, rests, queue, last);
     let refused = evict_refusal(short, a, header.virt_regs, v);
     *answer = refused;
     *taken = 0;
@@ -221,19 +177,7 @@ pub fn evict(
     }
     let reg = reg_of(a);
     *taken = wide(reg);
-    take_back(
-        v,
-        reg,
-        j64,
-        from(j64, USES),
-        from32(j32, SIZES),
-        from16(j16, HINT_STARTS),
-        from16(j16, SEGMENT_STARTS),
-        from32(j32, TOS),
-        ends,
-        rests,
-        queue,
-    );
+    take_back(v, reg, j64, j32, j16, ends, rests, queue);
     let waiting = Assignment::Unassigned {
         evicted_for_preference: flag_of(a),
     };

@@ -20,7 +20,7 @@ use Rattle.entries.specs.Moves.{words}
 use Rattle.entries.specs.Placing.{Assigned, Evicted}
 use Rattle.entries.specs.declared.Moved.{Moved}
 use Rattle.job.specs.Model.{Job, VirtReg, noVirtReg, virtReg, unitMap, segmentsOf, zeroWeight}
-use Rattle.job.specs.Layout.{jobBuffers, startsFrom}
+use Rattle.job.specs.Layout.{JobBuffers, jobBuffers, JobSlices, listsIn, startsFrom}
 use Rattle.job.proofs.Lists.{starts-length}
 use Rattle.job.proofs.Premises.{IsNumber}
 use Rattle.allocator.specs.declared.CandidateReg.{CandidateReg}
@@ -39,13 +39,14 @@ use Rattle.allocator.proofs.Records.{assigned-held, not-assigned, holder-stays,
 use Rattle.queue.specs.QueueWalk.{keyOf, setWord}
 use Rattle.stage.proofs.QueueLaws.{tournament-length, set-tournament, key-is, size-at, has-hints}
 use Rattle.stage.proofs.ReachedMoves.{table-stands, uses-lie, assign-gives, evict-loses, evict-held, evict-nothing, evictMarked, marked-yes, marked-no, marked-end}
-use Rattle.context.specs.Standing.{Moves}
-use Rattle.records.specs.Slices.{RecordBuffers, recordBuffers, recordAt, setRecord}
-use Rattle.records.proofs.SliceLaws.{free, at-back, set-back}
+use Rattle.context.specs.Standing.{JobStands, Moves}
+use Rattle.records.specs.Words.{recordWord, recordIn, PlainRecord, WordsOf}
+use Rattle.records.proofs.WordLaws.{word-read, word-set as record-set}
+use Rattle.records.proofs.PlainRecords.{records-length}
 use Rattle.stage.proofs.ReachedSearch.{record-read}
-use Rattle.decisions.specs.Deciding.{shareOf, members}
+use Rattle.decisions.specs.Deciding.{shareOf, members, fromsIn, tosIn}
 use Rattle.records.specs.Fields.{flagIn, isHeld, regIn, recordWeight}
-use Rattle.context.specs.Carrying.{EvictReads, TakenBack, EvictedAll, Taken}
+use Rattle.context.specs.Carrying.{wideLists, EvictReads, TakeReads, keyIn, TakenBack, EvictedAll, Taken}
 use Rattle.allocator.specs.Dequeue.{evictAll}
 use Rattle.context.proofs.Shares.{froms-share, tos-share}
 
@@ -57,6 +58,30 @@ module _ {A : Type 0} where
   begins-take n xs ys e b = ap (take n) (b .1) ∙ take-at xs (b .0) n e
 
 -- ---- the job's slices
+
+-- what carrying out reads, of a job that stands in its slices
+module _ (j : Job) (B : JobSlices) (b : JobStands j (listsIn B)) where
+  pub evict-reads : EvictReads j (wideLists B)
+  evict-reads =
+      record {
+        regs = b .reads .regs;
+        fixedUses = b .reads .fixedUses;
+        sizes-are = b .sizes;
+        hintStarts = b .reads .hintStarts;
+        segmentStarts = b .reads .segmentStarts;
+        tos-are = b .reads .tos;
+      }
+
+  pub take-reads : TakeReads j (wideLists B)
+  take-reads =
+      record {
+        regs = b .reads .regs;
+        fixedUses = b .reads .fixedUses;
+        valueSets = b .reads .valueSets;
+        segmentStarts = b .reads .segmentStarts;
+        froms-are = b .reads .froms;
+        tos-are = b .reads .tos;
+      }
 
 pub uses-are : (j : Job) (uses : List ℕ) → (b : Begins (jobBuffers j .fixedUses) uses) → uses ≡ useWords (j .fixed) ++ b .0
 unfolding jobBuffers
@@ -98,32 +123,31 @@ module _ (j : Job) (s : State) (g : Good j s) where
     pub queued-at :
         (q : Stage)
         → t .queued ≡ set (s .queued) v (some q)
-        → (hints sizes : List ℕ)
-        → Begins (jobBuffers j .hintStarts) hints
-        → Begins (jobBuffers j .sizes) sizes
-        → setWord v (keyOf v (ltb (getD hints v 0) (getD hints (v + 1) 0)) (getD sizes v 0) q + 1) queue ≡ queueWords j t ++ qt
+        → (B : JobBuffers)
+        → Begins (jobBuffers j .hintStarts) (B .hintStarts)
+        → Begins (jobBuffers j .sizes) (B .sizes)
+        → setWord v (keyIn B v q + 1) queue ≡ queueWords j t ++ qt
     unfolding jobBuffers
-    queued-at q e hints sizes bh bs =
-        let a = begins-take 513 _ hints (padded-length 513 0 (startsFrom (λ (x : VirtReg). length (x .hints)) 0 (j .virtRegs)) (omega (arith, starts-length (λ (x : VirtReg). length (x .hints)) 0 (j .virtRegs), few))) bh in
-        let b = begins-take 512 _ sizes (padded-length 512 0 (map (λ (x : VirtReg). x .size) (j .virtRegs)) (simp length-map few)) bs in
+    queued-at q e B bh bs =
+        let a = begins-take 513 _ (B .hintStarts) (padded-length 513 0 (startsFrom (λ (x : VirtReg). length (x .hints)) 0 (j .virtRegs)) (omega (arith, starts-length (λ (x : VirtReg). length (x .hints)) 0 (j .virtRegs), few))) bh in
+        let b = begins-take 512 _ (B .sizes) (padded-length 512 0 (map (λ (x : VirtReg). x .size) (j .virtRegs)) (simp length-map few)) bs in
         ap (λ (k : ℕ). setWord v (k + 1) queue)
-        (ap (λ (z : ℕ). keyOf v (ltb (getD hints v 0) (getD hints (v + 1) 0)) z q) (size-at j few hints sizes a b v known)
-        ∙ key-is j v q (ltb (getD hints v 0) (getD hints (v + 1) 0)) (has-hints j few hints sizes a b v known))
+        (ap (λ (z : ℕ). keyOf v (ltb (getD (B .hintStarts) v 0) (getD (B .hintStarts) (v + 1) 0)) z q) (size-at j few (B .hintStarts) (B .sizes) a b v known)
+        ∙ key-is j v q (ltb (getD (B .hintStarts) v 0) (getD (B .hintStarts) (v + 1) 0)) (has-hints j few (B .hintStarts) (B .sizes) a b v known))
         ∙ word-set (some q) e
 
 -- ---- a number loses its register
 
 pub taken-back :
-    (v reg : ℕ) (maps uses sizes hints starts tos ends rests queue ends′ rests′ queue′ own : List ℕ) (m : ℕ) (r : Moved) (h : Bool) (z : ℕ)
-    → own ≡ shareOf starts v tos
-    → m ≡ getD maps reg 0
+    (v reg : ℕ) (B : JobBuffers) (ends rests queue ends′ rests′ queue′ own : List ℕ) (m : ℕ) (uses : List ℕ) (r : Moved)
+    → own ≡ tosIn B v
+    → m ≡ getD (B .regs) reg 0
+    → uses ≡ B .fixedUses
     → Evicted v m uses own (words ends rests) (words ends′ rests′) r
-    → h ≡ ltb (getD hints v 0) (getD hints (v + 1) 0)
-    → z ≡ getD sizes v 0
-    → queue′ ≡ setWord v (keyOf v h z Evict + 1) queue
-    → TakenBack v reg maps uses sizes hints starts tos ends rests queue ends′ rests′ queue′
+    → queue′ ≡ setWord v (keyIn B v Evict + 1) queue
+    → TakenBack v reg B ends rests queue ends′ rests′ queue′
 unfolding lose
-taken-back v reg maps uses sizes hints starts tos ends rests queue ends′ rests′ queue′ own m r h z po pm ev ph pz pq =
+taken-back v reg B ends rests queue ends′ rests′ queue′ own m uses r po pm pu ev pq =
     record {
       reached =
           λ j s t reach e mv c held is.
@@ -131,21 +155,18 @@ taken-back v reg maps uses sizes hints starts tos ends rests queue ends′ rests
           let k = holder-good j s g v c held in
           let small : c .reg < 64 = omega (arith, k .2, g .premises .few-regs) in
           let mine : own ≡ map (λ x. x .to) (segmentsOf j v) =
-          po ∙ ap (λ (l : List ℕ). shareOf l v tos) (e .segmentStarts .1) ∙ ap (shareOf (jobBuffers j .segmentStarts ++ e .segmentStarts .0) v) (e .tos-are .1)
+          po ∙ ap (λ (l : List ℕ). shareOf l v (B .tos)) (e .segmentStarts .1) ∙ ap (shareOf (jobBuffers j .segmentStarts ++ e .segmentStarts .0) v) (e .tos-are .1)
           ∙ tos-share j v (k .0) (e .segmentStarts .0) (e .tos-are .0) in
           let done =
           evict-loses j s g (t .ends) (t .rests) (e .fixedUses .0) uses (words ends rests) (words ends′ rests′)
           (table-stands j s g ends rests (t .ends) (t .rests) (mv .table .ends-are) (mv .table .rests-are))
-          (uses-lie j s g uses (e .fixedUses .0) (uses-are j uses (e .fixedUses)))
+          (uses-lie j s g uses (e .fixedUses .0) (pu ∙ uses-are j (B .fixedUses) (e .fixedUses)))
           v m [] own mine c
-          (pm ∙ ap (λ (n : ℕ). getD maps n 0) (sym is) ∙ units-read j s g maps (e .regs) (c .reg) small)
+          (pm ∙ ap (λ (n : ℕ). getD (B .regs) n 0) (sym is) ∙ units-read j s g (B .regs) (e .regs) (c .reg) small)
           r held ev in
           record {
             table = record { ends-are = done .stands .ends-are; rests-are = done .stands .rests-are };
-            queue-is =
-                pq ∙ ap (λ (b : Bool). setWord v (keyOf v b z Evict + 1) queue) ph
-                ∙ ap (λ (n : ℕ). setWord v (keyOf v (ltb (getD hints v 0) (getD hints (v + 1) 0)) n Evict + 1) queue) pz
-                ∙ queued-at j s g (lose j v (c .reg) s) v (k .0) (t .queue) queue (mv .queue-is) Evict refl hints sizes (e .hintStarts) (e .sizes-are);
+            queue-is = pq ∙ queued-at j s g (lose j v (c .reg) s) v (k .0) (t .queue) queue (mv .queue-is) Evict refl B (e .hintStarts) (e .sizes-are);
           };
     }
 
@@ -163,18 +184,19 @@ last-set j s g v known c f lt last is =
     w t = lastWord (getD (s .last) t none)
 
 pub taken :
-    (v reg : ℕ) (maps uses sets starts froms tos ends rests queue last ends′ rests′ queue′ last′ from to : List ℕ) (m : ℕ) (r : Moved) (k w : ℕ)
-    → from ≡ shareOf starts v froms
-    → to ≡ shareOf starts v tos
-    → m ≡ getD maps reg 0
+    (v reg : ℕ) (B : JobBuffers) (ends rests queue last ends′ rests′ queue′ last′ from to : List ℕ) (m : ℕ) (uses : List ℕ) (r : Moved) (k w : ℕ)
+    → from ≡ fromsIn B v
+    → to ≡ tosIn B v
+    → m ≡ getD (B .regs) reg 0
+    → uses ≡ B .fixedUses
     → Assigned v m uses from to (words ends rests) (words ends′ rests′) r
     → queue′ ≡ setWord v 0 queue
-    → k ≡ getD sets v 0
+    → k ≡ getD (B .valueSets) v 0
     → (reg < 255 → w ≡ reg + 1)
     → last′ ≡ set last k w
-    → Taken v reg maps uses sets starts froms tos ends rests queue last ends′ rests′ queue′ last′
+    → Taken v reg B ends rests queue last ends′ rests′ queue′ last′
 unfolding give jobBuffers virtReg
-taken v reg maps uses sets starts froms tos ends rests queue last ends′ rests′ queue′ last′ from to m r k w pf pt pm pa pq pk pw pl =
+taken v reg B ends rests queue last ends′ rests′ queue′ last′ from to m uses r k w pf pt pm pu pa pq pk pw pl =
     record {
       reached =
           λ j s t reach e st known free names clear c f is.
@@ -183,18 +205,18 @@ taken v reg maps uses sets starts froms tos ends rests queue last ends′ rests�
           let small : reg < 64 = omega (arith, b, g .premises .few-regs) in
           let u = both (not (isSome (heldBy s v))) (not (isLeftOver s v)) free in
           let mine : from ≡ map (λ x. x .from) (segmentsOf j v) =
-          pf ∙ ap (λ (l : List ℕ). shareOf l v froms) (e .segmentStarts .1) ∙ ap (shareOf (jobBuffers j .segmentStarts ++ e .segmentStarts .0) v) (e .froms-are .1)
+          pf ∙ ap (λ (l : List ℕ). shareOf l v (B .froms)) (e .segmentStarts .1) ∙ ap (shareOf (jobBuffers j .segmentStarts ++ e .segmentStarts .0) v) (e .froms-are .1)
           ∙ froms-share j v known (e .segmentStarts .0) (e .froms-are .0) in
           let mine′ : to ≡ map (λ x. x .to) (segmentsOf j v) =
-          pt ∙ ap (λ (l : List ℕ). shareOf l v tos) (e .segmentStarts .1) ∙ ap (shareOf (jobBuffers j .segmentStarts ++ e .segmentStarts .0) v) (e .tos-are .1)
+          pt ∙ ap (λ (l : List ℕ). shareOf l v (B .tos)) (e .segmentStarts .1) ∙ ap (shareOf (jobBuffers j .segmentStarts ++ e .segmentStarts .0) v) (e .tos-are .1)
           ∙ tos-share j v known (e .segmentStarts .0) (e .tos-are .0) in
           let idle : Idle j s v = record { known = known; holds-nothing = not-some (heldBy s v) (u .0); stays = u .1 } in
           let done =
           assign-gives j s g (t .ends) (t .rests) (e .fixedUses .0) uses (words ends rests) (words ends′ rests′)
           (table-stands j s g ends rests (t .ends) (t .rests) (st .moves .table .ends-are) (st .moves .table .rests-are))
-          (uses-lie j s g uses (e .fixedUses .0) (uses-are j uses (e .fixedUses)))
+          (uses-lie j s g uses (e .fixedUses .0) (pu ∙ uses-are j (B .fixedUses) (e .fixedUses)))
           v m from to mine′ (candidate reg zeroWeight)
-          (pm ∙ units-read j s g maps (e .regs) reg small)
+          (pm ∙ units-read j s g (B .regs) (e .regs) reg small)
           r mine idle (record { names = names; plain = plain-zero }) clear pa false in
           record {
             moves =
@@ -207,7 +229,7 @@ taken v reg maps uses sets starts froms tos ends rests queue last ends′ rests�
                   queue-is = pq ∙ unqueued j s g (give j v c f s) v known (t .queue) queue (st .moves .queue-is) refl;
                 };
             last-is =
-                pl ∙ ap (λ (n : ℕ). set last n w) (pk ∙ sets-read j s g sets (e .valueSets) v known) ∙ ap (set last (virtReg j v .valueSet)) (pw (omega arith) ∙ ap (λ (n : ℕ). n + 1) (sym is))
+                pl ∙ ap (λ (n : ℕ). set last n w) (pk ∙ sets-read j s g (B .valueSets) (e .valueSets) v known) ∙ ap (set last (virtReg j v .valueSet)) (pw (omega arith) ∙ ap (λ (n : ℕ). n + 1) (sym is))
                 ∙ last-set j s g v known c f (t .last) last (st .last-is);
           };
     }
@@ -221,43 +243,43 @@ held-as (Unassigned g) f r y p e = absurd (subst (λ (x : Bool). T (not x)) y tt
 held-as Dead f r y p e = absurd (subst (λ (x : Bool). T (not x)) y tt)
 
 -- those below i are done: the state then is x, and evicting the others from i on gives what evicting all gives
-pub record Onward (j : Job) (s : State) (t : StateBuffers) (i : ℕ) (gone : List Bool) (rs′ : RecordBuffers) (ends′ rests′ queue′ : List ℕ) : Type 0 where
+pub record Onward (j : Job) (s : State) (t : StateBuffers) (i : ℕ) (gone : List Bool) (ends′ rests′ queue′ W′ : List ℕ) : Type 0 where
   pub x : State
   pub reached : Reached j x
   pub moves : Moves j x t ends′ rests′ queue′
-  pub records-are : rs′ ≡ recordBuffers (records x)
+  pub records-are : WordsOf (records x) W′
   pub whole : evictMarked j gone i x i x ≡ evictAll j (members gone) s
 
-pub record EvictedTo (i : ℕ) (gone : List Bool) (rs : RecordBuffers) (maps uses sizes hints starts tos ends rests queue : List ℕ) (rs′ : RecordBuffers) (ends′ rests′ queue′ : List ℕ) : Type 0 where
+pub record EvictedTo (i : ℕ) (gone : List Bool) (B : JobBuffers) (ends rests queue W ends′ rests′ queue′ W′ : List ℕ) : Type 0 where
   pub onward :
       (j : Job) (s : State) (t : StateBuffers)
       → Reached j s
-      → EvictReads j maps uses sizes hints starts tos
+      → EvictReads j B
       → Moves j s t ends rests queue
-      → rs ≡ recordBuffers (records s)
-      → Onward j s t i gone rs′ ends′ rests′ queue′
+      → WordsOf (records s) W
+      → Onward j s t i gone ends′ rests′ queue′ W′
 
-module _ (gone : List Bool) (rs : RecordBuffers) (maps uses sizes hints starts tos ends rests queue : List ℕ) where
-  abbrev To : ℕ → RecordBuffers → List ℕ → List ℕ → List ℕ → Type 0
-  To i rs′ ends′ rests′ queue′ = EvictedTo i gone rs maps uses sizes hints starts tos ends rests queue rs′ ends′ rests′ queue′
+module _ (gone : List Bool) (B : JobBuffers) (ends rests queue W : List ℕ) where
+  abbrev To : ℕ → List ℕ → List ℕ → List ℕ → List ℕ → Type 0
+  To i ends′ rests′ queue′ W′ = EvictedTo i gone B ends rests queue W ends′ rests′ queue′ W′
 
-  pub evict-start : To 0 rs ends rests queue
+  pub evict-start : To 0 ends rests queue W
   unfolding members
   evict-start = record { onward = λ j s t reach e mv is. record { x = s; reached = reach; moves = mv; records-are = is; whole = refl } }
 
-  module _ (i : ℕ) (rs′ : RecordBuffers) (ends′ rests′ queue′ : List ℕ) (so-far : To i rs′ ends′ rests′ queue′) where
-    pub evict-end : 512 ≤ i → EvictedAll gone rs maps uses sizes hints starts tos ends rests queue rs′ ends′ rests′ queue′
+  module _ (i : ℕ) (ends′ rests′ queue′ W′ : List ℕ) (so-far : To i ends′ rests′ queue′ W′) where
+    pub evict-end : 512 ≤ i → EvictedAll gone B ends rests queue W ends′ rests′ queue′ W′
     evict-end h =
         record {
           reached =
               λ j s t reach e mv is.
               let o = so-far .onward j s t reach e mv is in
               let all : o .x ≡ evictAll j (members gone) s = marked-end j gone i (o .x) h ∙ o .whole in
-              (subst (λ (x : State). Moves j x t ends′ rests′ queue′) all (o .moves), o .records-are ∙ ap (λ (x : State). recordBuffers (records x)) all);
+              (subst (λ (x : State). Moves j x t ends′ rests′ queue′) all (o .moves), subst (λ (x : State). WordsOf (records x) W′) all (o .records-are));
         }
 
     -- i is not of the set
-    pub evict-pass : i < 512 → getD gone i false ≡ false → To (i + 1) rs′ ends′ rests′ queue′
+    pub evict-pass : i < 512 → getD gone i false ≡ false → To (i + 1) ends′ rests′ queue′ W′
     evict-pass l n =
         record {
           onward =
@@ -266,13 +288,13 @@ module _ (gone : List Bool) (rs : RecordBuffers) (maps uses sizes hints starts t
               record { x = o .x; reached = o .reached; moves = o .moves; records-are = o .records-are; whole = marked-no j gone i (o .x) l n ∙ o .whole };
         }
 
-    module _ (l : i < 512) (m : getD gone i false ≡ true) (a : Assignment) (has : a ≡ recordAt rs′ i) where
+    module _ (l : i < 512) (m : getD gone i false ≡ true) (a : Assignment) (has : a ≡ recordIn (getD W′ i 0)) where
       -- the record of i in a state whose records these are
-      own : (x : State) → rs′ ≡ recordBuffers (records x) → recordOf x i ≡ a
-      own x is = sym (record-read x free i l) ∙ sym (at-back (records x) i) ∙ sym (ap (λ (r : RecordBuffers). recordAt r i) is) ∙ sym has
+      own : (x : State) → WordsOf (records x) W′ → recordOf x i ≡ a
+      own x is = sym (record-read x Dead i l) ∙ sym (word-read is i l) ∙ sym has
 
       -- i holds nothing
-      pub evict-idle : isHeld a ≡ false → To (i + 1) rs′ ends′ rests′ queue′
+      pub evict-idle : isHeld a ≡ false → To (i + 1) ends′ rests′ queue′ W′
       evict-idle n =
           record {
             onward =
@@ -300,11 +322,12 @@ module _ (gone : List Bool) (rs : RecordBuffers) (maps uses sizes hints starts t
           → f ≡ flagIn a
           → reg ≡ regIn a
           → (ends″ rests″ queue″ : List ℕ)
-          → TakenBack i reg maps uses sizes hints starts tos ends′ rests′ queue′ ends″ rests″ queue″
-          → (rs″ : RecordBuffers)
-          → rs″ ≡ setRecord rs′ i (Unassigned f)
-          → To (i + 1) rs″ ends″ rests″ queue″
-      evict-one f reg y pf pr ends″ rests″ queue″ tb rs″ st =
+          → TakenBack i reg B ends′ rests′ queue′ ends″ rests″ queue″
+          → (W″ : List ℕ) (x : ℕ)
+          → (x ≡ recordWord (Unassigned f)) × (PlainRecord (Unassigned f) → recordIn x ≡ Unassigned f)
+          → W″ ≡ set W′ i x
+          → To (i + 1) ends″ rests″ queue″ W″
+      evict-one f reg y pf pr ends″ rests″ queue″ tb W″ x px st =
           record {
             onward =
                 λ j s t reach e mv is.
@@ -313,15 +336,15 @@ module _ (gone : List Bool) (rs : RecordBuffers) (maps uses sizes hints starts t
                 let w = recordWeight a in
                 let h = assigned-held j (o .x) g i f reg w (own (o .x) (o .records-are) ∙ held-as a f reg y pf pr) in
                 let gone-one = evict-held j (o .x) i (candidate reg w) (h .0) in
+                let after : set (records (o .x)) i (Unassigned f) ≡ records (lose j i reg (o .x)) =
+                ap (λ (b : Bool). set (records (o .x)) i (Unassigned b)) (sym (h .1))
+                ∙ sym (lose-records j (o .x) g i (holder-good j (o .x) g i (candidate reg w) (h .0) .0) reg (not-left (holder-stays j (o .x) g i (candidate reg w) (h .0)))) in
                 record {
                   x = lose j i reg (o .x);
                   reached = subst (λ (y : State). Reached j y) gone-one (reached-evict j (o .x) (o .reached) i);
                   moves = tb .reached j (o .x) t (o .reached) e (o .moves) (candidate reg w) (h .0) refl;
                   records-are =
-                      st ∙ ap (λ (r : RecordBuffers). setRecord r i (Unassigned f)) (o .records-are)
-                      ∙ set-back (records (o .x)) i (Unassigned f)
-                      ∙ ap (λ (b : Bool). recordBuffers (set (records (o .x)) i (Unassigned b))) (sym (h .1))
-                      ∙ sym (ap recordBuffers (lose-records j (o .x) g i (holder-good j (o .x) g i (candidate reg w) (h .0) .0) reg (not-left (holder-stays j (o .x) g i (candidate reg w) (h .0)))));
+                      rw st (subst (λ (rs : List Assignment). WordsOf rs (set W′ i x)) after (record-set (o .records-are) (records-length (o .x)) i x (Unassigned f) (px .0) (px .1 plain-zero)));
                   whole =
                       ap (λ (y : State). evictMarked j gone i (o .x) (i + 1) y) (sym gone-one)
                       ∙ marked-yes j gone i (o .x) l m ∙ o .whole;

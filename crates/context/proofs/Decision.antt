@@ -17,6 +17,7 @@ use Rattle.job.specs.Model.{Job, virtReg, noVirtReg, classOf}
 use Rattle.job.specs.Layout.{JobBuffers, jobBuffers}
 use Rattle.job.proofs.Premises.{IsNumber, Plain}
 use Rattle.allocator.specs.State.{State, heldBy, isLeftOver, flag, lastGiven, assignment, recordOf, records}
+use Rattle.allocator.specs.declared.Assignment.the-variants.{Dead}
 use Rattle.allocator.specs.declared.CandidateReg.{CandidateReg}
 use Rattle.allocator.specs.declared.Stage.{Stage}
 use Rattle.allocator.specs.declared.Stage.the-variants.{Evict, Split}
@@ -40,9 +41,8 @@ use Rattle.decisions.specs.declared.Fate.the-variants.{Takes, Splits, Fails}
 use Rattle.decisions.specs.Deciding.{members, decisionOf, decided, without, lastIn, preferredOr, clearIn, evictedOr, noneClearIn, foundIn, inOrder, lentTo, classIn, hintedIn, decidedIn}
 use Rattle.records.specs.Fields.{flagIn, recordWeight}
 use Rattle.context.specs.Standing.{JobReads, TableStands}
-use Rattle.records.specs.Slices.{RecordBuffers, recordBuffers, recordAt}
-use Rattle.records.proofs.SliceLaws.{free, at-back}
-use Rattle.decisions.proofs.DecideLaws.{decided-by}
+use Rattle.records.specs.Words.{recordIn, heldIn, WordsOf}
+use Rattle.records.proofs.WordLaws.{word-read, held-are}
 use Rattle.context.proofs.Shares.{froms-share, tos-share, values-share, hint-regs-share, hint-weights-share, class-share}
 
 -- ---- words and weights
@@ -101,7 +101,7 @@ module _ (j : Job) (s : State) (g : Good j s) (B : JobBuffers) (R : JobReads j B
       record { maps-behind = R .regs .0; spills-behind = R .spillWeights .0; maps-are = R .regs .1; held-are = refl; spills-are = R .spillWeights .1 }
 
   pub class-is : classIn B v ≡ classOf j v
-  unfolding jobBuffers classIn
+  unfolding jobBuffers
   class-is =
       let k : getD (B .classes) v 0 ≡ virtReg j v .class = rw (R .classes .1) (field-read (λ (x : model.VirtReg). x .class) j v (R .classes .0) (g .premises .few-numbers) below) in
       rw (k, R .classStarts .1, R .classRegs .1) (class-share j (virtReg j v .class) (g .premises .a-class v b) (R .classStarts .0) (R .classRegs .0))
@@ -127,9 +127,9 @@ module _ (j : Job) (s : State) (g : Good j s) (B : JobBuffers) (R : JobReads j B
       (hinted-is (virtReg j v) (lastGiven j s v))
 
   -- who is not left over has its flag
-  pub flag-is : T (not (isLeftOver s v)) → flagIn (getD (records s) v free) ≡ flag s v
+  pub flag-is : T (not (isLeftOver s v)) → flagIn (getD (records s) v Dead) ≡ flag s v
   unfolding recordOf
-  flag-is h = ap flagIn (record-read s free v below) ∙ go (isLeftOver s v) (heldBy s v) h
+  flag-is h = ap flagIn (record-read s Dead v below) ∙ go (isLeftOver s v) (heldBy s v) h
     where
       go : (l : Bool) (o : Option CandidateReg) → T (not l) → flagIn (assignment l (flag s v) o) ≡ flag s v
       go true o t = absurd t
@@ -190,33 +190,24 @@ module _ (j : Job) (s : State) (g : Good j s) (B : JobBuffers) (R : JobReads j B
         ∙ sym (decide-found j s g v b (lentTo B ends rests v) lentNow (B .regs) (heldOf s) (B .spillWeights) search-lent q))
 
     pub decision-read : (q : Stage) → decisionOf (decidedIn B ends rests (lastWords s ++ lb) (heldOf s) (flag s v) v q) ≡ decide j s v q
-    decision-read q =
-        ap decisionOf
-        (sym
-        (decided-by B ends rests (lastWords s ++ lb) (heldOf s) (flag s v) v q (lentTo B ends rests v) hinted (classOf j v) (spillWeight j v) refl
-        (sym (hinted-read lb))
-        (sym class-is)
-        (sym (spill-read j s g (B .regs) (heldOf s) (B .spillWeights) search-lent v below))))
-        ∙ in-order-is q
+    unfolding decidedIn
+    decision-read q = rw (hinted-read lb, class-is, spill-read j s g (B .regs) (heldOf s) (B .spillWeights) search-lent v below) (in-order-is q)
 
 -- of a number that neither holds a register nor is left over
 pub decision-good :
     (j : Job) (s : State) → Good j s → (B : JobBuffers) → JobReads j B
     → (v : ℕ) → Idle j s v → (q : Stage)
-    → (et rt lb ends rests last : List ℕ) (rs : RecordBuffers) (f : Bool) → TableStands s et rt ends rests → last ≡ lastWords s ++ lb → rs ≡ recordBuffers (records s)
-    → f ≡ flagIn (recordAt rs v)
-    → (length (classIn B v) ≤ 64) × (decisionOf (decidedIn B ends rests last (rs .held) f v q) ≡ decide j s v q)
-unfolding recordBuffers
-decision-good j s g B R v i q et rt lb ends rests last rs f S l r e =
-    let w : rs .held ≡ heldOf s = ap (λ (x : RecordBuffers). x .held) r in
-    let o : f ≡ flag s v = e ∙ ap (λ (x : RecordBuffers). flagIn (recordAt x v)) r ∙ ap flagIn (at-back (records s) v) ∙ flag-is j s g B R v (i .known) (i .stays) in
-    (class-few j s g B R v (i .known), rw (l, w, o) (decision-read j s g B R v (i .known) et rt lb ends rests S q))
+    → (et rt lb ends rests last W : List ℕ) → TableStands s et rt ends rests → last ≡ lastWords s ++ lb → WordsOf (records s) W
+    → (length (classIn B v) ≤ 64) × (decisionOf (decidedIn B ends rests last (heldIn W) (flagIn (recordIn (getD W v 0))) v q) ≡ decide j s v q)
+decision-good j s g B R v i q et rt lb ends rests last W S l w =
+    let o : flagIn (recordIn (getD W v 0)) ≡ flag s v =
+    ap flagIn (word-read w v (omega (arith, i .known, g .premises .few-numbers))) ∙ flag-is j s g B R v (i .known) (i .stays) in
+    (class-few j s g B R v (i .known), rw (l, held-are w, o) (decision-read j s g B R v (i .known) et rt lb ends rests S q))
 
 -- of a number that is queued, on a state that calls reach
 pub decision-is :
     (j : Job) (s : State) → Reached j s → (B : JobBuffers) → JobReads j B
     → (v : ℕ) (q : Stage) → queuedAt s v ≡ some q
-    → (et rt lb ends rests last : List ℕ) (rs : RecordBuffers) (f : Bool) → TableStands s et rt ends rests → last ≡ lastWords s ++ lb → rs ≡ recordBuffers (records s)
-    → f ≡ flagIn (recordAt rs v)
-    → (length (classIn B v) ≤ 64) × (decisionOf (decidedIn B ends rests last (rs .held) f v q) ≡ decide j s v q)
+    → (et rt lb ends rests last W : List ℕ) → TableStands s et rt ends rests → last ≡ lastWords s ++ lb → WordsOf (records s) W
+    → (length (classIn B v) ≤ 64) × (decisionOf (decidedIn B ends rests last (heldIn W) (flagIn (recordIn (getD W v 0))) v q) ≡ decide j s v q)
 decision-is j s r B R v q e = let g = good-reached j s r in decision-good j s g B R v (queued-idle j s g v q e) q

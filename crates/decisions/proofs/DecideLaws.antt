@@ -44,30 +44,33 @@ module _ (last sets : List ℕ) (v t word : ℕ) (a : t ≡ getD sets v 0) (b : 
 
 -- ---- a clear candidate
 
-module _ (W : Lent) (maps : List ℕ) (ws : List Float) (ss : List Float) (hs : List CandidateReg) (flag : Bool) (c : CandidateReg) where
+module _ (flag : Bool) (w : Float) (hs : List CandidateReg) where
   -- the flag is on
-  pub clear-flagged : flag ≡ true → decided Takes c false (replicate 512 false) ≡ clearIn W maps ws ss hs flag c
-  unfolding clearIn
-  clear-flagged e = rw e (go (lt (c .«preference_weight») (highestPreference hs)))
+  pub wants-flagged : flag ≡ true → false ≡ (lt w (highestPreference hs) && not flag)
+  wants-flagged e = rw e (go (lt w (highestPreference hs)))
     where
-      go : (t : Bool) → decided Takes c false (replicate 512 false) ≡ cond (t && false) (preferredOr c (preferIn W maps ws ss c hs)) (decided Takes c false (replicate 512 false))
+      go : (t : Bool) → false ≡ (t && false)
       go true = refl
       go false = refl
 
-  module _ (h : Float) (p : h ≡ highestPreference hs) where
-    -- no hinted candidate is heavier
-    pub clear-heaviest : lt (c .«preference_weight») h ≡ false → decided Takes c false (replicate 512 false) ≡ clearIn W maps ws ss hs flag c
-    unfolding clearIn
-    clear-heaviest l =
-        let m : lt (c .«preference_weight») (highestPreference hs) ≡ false = rw (← p) l in
-        rw m
+  -- or the first hinted weight decides
+  pub wants-heavier : (h : Float) → h ≡ highestPreference hs → flag ≡ false → lt w h ≡ (lt w (highestPreference hs) && not flag)
+  wants-heavier h p e = rw (p, e) (go (lt w (highestPreference hs)))
+    where
+      go : (t : Bool) → t ≡ (t && true)
+      go true = refl
+      go false = refl
 
-    -- the search for a preferred one decides
-    pub clear-searched : flag ≡ false → lt (c .«preference_weight») h ≡ true → (b : Best) → b ≡ preferIn W maps ws ss c hs → preferredOr c b ≡ clearIn W maps ws ss hs flag c
-    unfolding clearIn
-    clear-searched e l b q =
-        let m : lt (c .«preference_weight») (highestPreference hs) ≡ true = rw (← p) l in
-        rw (m, e) (ap (preferredOr c) q)
+module _ (W : Lent) (maps : List ℕ) (ws : List Float) (ss : List Float) (hs : List CandidateReg) (flag : Bool) (c : CandidateReg) (t : Bool) (p : t ≡ (lt (c .«preference_weight») (highestPreference hs) && not flag)) where
+  -- no other is preferred
+  pub clear-taken : t ≡ false → decided Takes c false (replicate 512 false) ≡ clearIn W maps ws ss hs flag c
+  unfolding clearIn
+  clear-taken e = rw (← p, e)
+
+  -- the search for a preferred one decides
+  pub clear-searched : t ≡ true → (b : Best) → b ≡ preferIn W maps ws ss c hs → preferredOr c b ≡ clearIn W maps ws ss hs flag c
+  unfolding clearIn
+  clear-searched e b q = rw (← p, e) (ap (preferredOr c) q)
 
 pub evicts-found : (c : CandidateReg) (b : Best) → b .found ≡ true → decided Evicts (b .to) true (b .holders) ≡ preferredOr c b
 evicts-found c b e = rw e
@@ -126,39 +129,11 @@ hinted-few hr hw last =
     let x : VirtReg = record { class = 0; valueSet = 0; spillWeight = zeroWeight; size = 0; hints = hintsOf hr hw; segments = [] } in
     rw (hinted-is x last) (omega (arith, hinted-length x last, length-take 64 (zipHints hr hw)))
 
--- the class of a kind that was read
-module _ (B : JobBuffers) (v kind : ℕ) (class : List ℕ) (k : kind ≡ getD (B .classes) v 0) (c : class ≡ shareOf (B .classStarts) kind (B .classRegs)) where
-  class-read : class ≡ classIn B v
-  unfolding classIn
-  class-read = c ∙ ap (λ (n : ℕ). shareOf (B .classStarts) n (B .classRegs)) k
-
-  pub class-fits : length (classIn B v) ≤ 64 → length class ≤ 64
-  class-fits h = subst (λ (l : List ℕ). length l ≤ 64) (sym class-read) h
-
-module _ (B : JobBuffers) (ends rests last : List ℕ) (ws : List Float) (flag : Bool) (v : ℕ) (q : Stage) where
-  pub decided-by :
-      (W : Lent) (hs : List CandidateReg) (class : List ℕ) (own : Float)
-      → W ≡ lentTo B ends rests v
-      → hs ≡ hintedIn B last v
-      → class ≡ classIn B v
-      → own ≡ getD (B .spillWeights) v zeroWeight
-      → inOrder W (B .regs) ws (B .spillWeights) hs class flag own q ≡ decidedIn B ends rests last ws flag v q
-  unfolding decidedIn
-  decided-by W hs class own w h c o = rw (w, h, c, o)
-
-  pub decided-is :
-      (kind : ℕ) (class fs ts vs hr : List ℕ) (hw : List Float) (la : Last) (own : Float) (d : Decided)
-      → d ≡ inOrder (lent ends rests (B .fixedUses) fs ts vs) (B .regs) ws (B .spillWeights) (hintedOf (hintsOf hr hw) (lastOf la)) class flag own q
-      → kind ≡ getD (B .classes) v 0
-      → class ≡ shareOf (B .classStarts) kind (B .classRegs)
-      → fs ≡ shareOf (B .segmentStarts) v (B .froms)
-      → ts ≡ shareOf (B .segmentStarts) v (B .tos)
-      → vs ≡ shareOf (B .segmentStarts) v (B .values)
-      → hr ≡ shareOf (B .hintStarts) v (B .hintRegs)
-      → hw ≡ shareOf (B .hintStarts) v (B .hintWeights)
-      → la ≡ lastIn last (B .valueSets) v
-      → own ≡ getD (B .spillWeights) v zeroWeight
-      → d ≡ decidedIn B ends rests last ws flag v q
-  unfolding hintedIn
-  decided-is kind class fs ts vs hr hw la own d e k c a b x y z l o =
-      e ∙ decided-by _ _ class own (rw (a, b, x)) (rw (y, z, l)) (class-read B v kind class k c) o
+-- the hinted candidates of what was read for v
+pub hinted-read : (B : JobBuffers) (last : List ℕ) (v : ℕ) (hr : List ℕ) (hw : List Float) (la : Last)
+    → hr ≡ shareOf (B .hintStarts) v (B .hintRegs)
+    → hw ≡ shareOf (B .hintStarts) v (B .hintWeights)
+    → la ≡ lastIn last (B .valueSets) v
+    → hintedOf (hintsOf hr hw) (lastOf la) ≡ hintedIn B last v
+unfolding hintedIn
+hinted-read B last v hr hw la a b c = rw (a, b, c)

@@ -89,11 +89,22 @@ inOrder W maps ws ss hs class flag own q =
 
 -- ---- over the job's buffers B, the table's, the last registers and the weights held
 
-abbrev pub lentTo : JobBuffers → List ℕ → List ℕ → ℕ → Lent
-lentTo B ends rests v =
-    lent ends rests (B .fixedUses) (shareOf (B .segmentStarts) v (B .froms)) (shareOf (B .segmentStarts) v (B .tos)) (shareOf (B .segmentStarts) v (B .values))
+-- where the segments of v start and end, and their values
+abbrev pub fromsIn : JobBuffers → ℕ → List ℕ
+fromsIn B v = shareOf (B .segmentStarts) v (B .froms)
 
-unfoldable pub classIn : JobBuffers → ℕ → List ℕ
+abbrev pub tosIn : JobBuffers → ℕ → List ℕ
+tosIn B v = shareOf (B .segmentStarts) v (B .tos)
+
+abbrev pub valuesIn : JobBuffers → ℕ → List ℕ
+valuesIn B v = shareOf (B .segmentStarts) v (B .values)
+
+-- what a check of the segments of v is lent
+abbrev pub lentTo : JobBuffers → List ℕ → List ℕ → ℕ → Lent
+lentTo B ends rests v = lent ends rests (B .fixedUses) (fromsIn B v) (tosIn B v) (valuesIn B v)
+
+-- the registers of the class of v
+abbrev pub classIn : JobBuffers → ℕ → List ℕ
 classIn B v = shareOf (B .classStarts) (getD (B .classes) v 0) (B .classRegs)
 
 unfoldable pub hintedIn : JobBuffers → List ℕ → ℕ → List CandidateReg
@@ -103,24 +114,3 @@ hintedIn B last v =
 unfoldable pub decidedIn : JobBuffers → List ℕ → List ℕ → List ℕ → List Float → Bool → ℕ → Stage → Decided
 decidedIn B ends rests last ws flag v q =
     inOrder (lentTo B ends rests v) (B .regs) ws (B .spillWeights) (hintedIn B last v) (classIn B v) flag (getD (B .spillWeights) v zeroWeight) q
-
--- the job's buffers that a decision reads; it asks for no size
-abbrev pub reading : List ℕ → List ℕ → List ℕ → List ℕ → List ℕ → List ℕ → List Float → List ℕ → List ℕ → List Float → List ℕ → List ℕ → List ℕ → List ℕ → JobBuffers
-reading maps cs cr us kinds sets sw hs hr hw ss fs ts vs =
-    record {
-      regs = maps;
-      classStarts = cs;
-      classRegs = cr;
-      fixedUses = us;
-      classes = kinds;
-      valueSets = sets;
-      spillWeights = sw;
-      sizes = [];
-      hintStarts = hs;
-      hintRegs = hr;
-      hintWeights = hw;
-      segmentStarts = ss;
-      froms = fs;
-      tos = ts;
-      values = vs;
-    }

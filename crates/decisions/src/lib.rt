@@ -1,28 +1,48 @@
 // What a dequeue decides (`Context::allocate`). It reads, and changes nothing.
 ghost use mathlib.Core.Path.{_≡_};
-ghost use mathlib.Core.List.{List};
-ghost use Prim.Native.Nat.{_+_, _≤_};
-ghost use lib.ListN.{length};
-ghost use lib.Ieee.{eq};
-ghost use Rattle.matrix.specs.Walk.{lent};
+ghost use mathlib.Core.Bool.{false, not, _&&_};
+ghost use mathlib.Core.List.{List, []};
+ghost use Prim.Native.Nat.{ℕ, _+_, _≤_};
+ghost use lib.ListN.{length, getD, replicate};
+ghost use lib.Ieee.{lt, eq};
+ghost use Rattle.job.specs.Layout.{slices, listsIn};
 ghost use Rattle.allocator.specs.declared.CandidateReg.{CandidateReg};
+ghost use Rattle.allocator.specs.Order.{highestPreference};
 ghost use Rattle.allocator.specs.Evict.{infinite};
+ghost use Rattle.records.specs.Fields.{flagIn};
+ghost use Rattle.records.specs.Words.{recordIn, heldIn};
 ghost use Rattle.order.specs.OrderWalk.{Computed, offersFrom};
-ghost use Rattle.decisions.specs.Deciding.{without, lastIn, clearIn, noneClearIn, foundIn, inOrder, classIn, decidedIn, reading};
+ghost use Rattle.stage.specs.AllocateWalk.{availableIn, evictIn, noBest};
+ghost use Rattle.decisions.specs.Deciding.{Takes, Evicts, decided, without, lastIn, clearIn, noneClearIn, inOrder, lentTo, classIn, hintedIn, decidedIn};
+use crate::parts::class_of;
+use crate::parts::froms_of;
 use crate::parts::of_float;
 use crate::parts::of8;
-use crate::parts::of16;
-use crate::parts::of32;
+use crate::parts::tos_of;
+use crate::parts::values_of;
 use allocator::CandidateReg;
 use allocator::Stage;
+use job::HINT_REGS;
+use job::HINT_STARTS;
+use job::HINT_WEIGHTS;
+use job::SETS;
+use job::USES;
+use lent::at;
 use lent::at_float;
 use lent::at8;
 use lent::at16;
+use lent::from;
+use lent::from_float;
+use lent::from8;
+use lent::from16;
 use order::AllocationOrder;
 use order::Last;
 use order::compute;
 use order::highest_preference;
+use records::assignment::flag_of;
+use records::words::record_of;
 use stage::allocate::Available;
+use stage::allocate::Best;
 use stage::allocate::find_available_reg;
 use stage::allocate::try_evict;
 use stage::allocate::try_evict_for_preferred_reg;
@@ -80,291 +100,270 @@ fn is_infinite(weight: f32) -> bool
     weight == f32::from_bits(0x7F80_0000)
 }
 
-// The clear candidate c is taken, unless its weight is below the first hinted one, the flag is off and a preferred candidate can be evicted from.
-fn with_clear(
-    c: CandidateReg,
-    flag: bool,
-    order: AllocationOrder,
-    regs: &[u8],
-    weights: &[f32],
-    maps: &[u64],
-    held: &[f32],
-    spills: &[f32],
-    ends: &[u64],
-    rests: &[u64],
-    uses: &[u64],
-    froms: &[u32],
-    tos: &[u32],
-    values: &[u16],
-) -> Decided
-    ensures { λ r. ⌜ ((hs : List CandidateReg) → Computed order (now (regs .entry)) (now (weights .entry)) hs → length hs ≤ 65 → r ≡ clearIn (lent (now (ends .entry)) (now (rests .entry)) (now (uses .entry)) (now (froms .entry)) (now (tos .entry)) (now (values .entry))) (now (maps .entry)) (now (held .entry)) (now (spills .entry)) hs flag c) ⌝ }
+// Nothing is evicted: the candidate is clear.
+fn takes(c: CandidateReg) -> Decided
+    ensures { λ r. ⌜ r ≡ decided Takes c false (replicate 512 false) ⌝ }
 {
-    let taken = Decided {
+    Decided {
         fate: Fate::Takes,
         to: c,
         flag: false,
         evicted: [false; 512],
-    };
-    if flag {
-        return taken;
     }
-    if c.preference_weight < highest_preference(order, weights) {
+}
+
+// The best candidate is taken from its holders, and the flag turns on or not.
+fn evicts(best: Best, flag: bool) -> Decided
+    ensures { λ r. ⌜ r ≡ decided Evicts (best .to) flag (best .holders) ⌝ }
+{
+    let to = best.to;
+    let evicted = best.holders;
+    Decided {
+        fate: Fate::Evicts,
+        to,
+        flag,
+        evicted,
+    }
+}
+
+// The hinted candidates of v, into the slices lent for them, 65 long each.
+fn order_of(
+    v: u16,
+    j16: &[u16],
+    j8: &[u8],
+    jf: &[f32],
+    last: &[u8],
+    regs: &mut [u8],
+    weights: &mut [f32],
+) -> AllocationOrder
+    ensures { λ o. ⌜ (65 ≤ length (now (regs .entry)) → 65 ≤ length (now (weights .entry)) → Computed o (now (regs .exit)) (now (weights .exit)) (hintedIn (listsIn (slices [] [] (now (j16 .entry)) (now (j8 .entry)) (now (jf .entry)))) (now (last .entry)) v)) ⌝ }
+{
+    let starts = from16(j16, HINT_STARTS);
+    compute(
+        of8(starts, v, from8(j8, HINT_REGS)),
+        of_float(starts, v, from_float(jf, HINT_WEIGHTS)),
+        last_given(last, from16(j16, SETS), v),
+        regs,
+        weights,
+    )
+}
+
+// A number that is dequeued: the stage that it was queued at, its flag, its spill weight, and the order of its candidates.
+struct Dequeued {
+    v: u16,
+    stage: Stage,
+    flag: bool,
+    spill_weight: f32,
+    order: AllocationOrder,
+}
+
+impl Dequeued {
+    // The first candidate that is clear, if there is one.
+    fn available(
+        self,
+        regs: &[u8],
+        weights: &[f32],
+        j64: &[u64],
+        j32: &[u32],
+        j16: &[u16],
+        j8: &[u8],
+        ends: &[u64],
+        rests: &[u64],
+    ) -> Available
+        ensures { λ r. ⌜ ((hs : List CandidateReg) → Computed (self .order) (now (regs .entry)) (now (weights .entry)) hs → length hs + length (classIn (listsIn (slices [] [] (now (j16 .entry)) (now (j8 .entry)) [])) (self .v)) ≤ 129 → r ≡ availableIn (lentTo (listsIn (slices (now (j64 .entry)) (now (j32 .entry)) (now (j16 .entry)) [] [])) (now (ends .entry)) (now (rests .entry)) (self .v)) (now (j64 .entry)) false (offersFrom hs (classIn (listsIn (slices [] [] (now (j16 .entry)) (now (j8 .entry)) [])) (self .v)) 0)) ⌝ }
+    {
+        let v = self.v;
+        let order = self.order;
+        find_available_reg(
+            order,
+            regs,
+            weights,
+            class_of(v, j16, j8),
+            j64,
+            ends,
+            rests,
+            from(j64, USES),
+            froms_of(v, j32, j16),
+            tos_of(v, j32, j16),
+            values_of(v, j16),
+        )
+    }
+
+    // Whether a preferred candidate is looked for: the clear one is lighter than the first hinted one, and the flag is off.
+    fn wants_preferred(self, c: CandidateReg, weights: &[f32]) -> bool
+        ensures { λ r. ⌜ ((regs : List ℕ) (hs : List CandidateReg) → Computed (self .order) regs (now (weights .entry)) hs → r ≡ (lt (c .«preference_weight») (highestPreference hs) && not (self .flag))) ⌝ }
+    {
+        if self.flag {
+            return false;
+        }
+        let order = self.order;
+        c.preference_weight < highest_preference(order, weights)
+    }
+
+    // The clear candidate c is taken, unless another is preferred and its holders may be evicted.
+    fn with_clear(
+        self,
+        c: CandidateReg,
+        regs: &[u8],
+        weights: &[f32],
+        words: &[u64],
+        j64: &[u64],
+        j32: &[u32],
+        j16: &[u16],
+        jf: &[f32],
+        ends: &[u64],
+        rests: &[u64],
+    ) -> Decided
+        ensures { λ r. ⌜ ((hs : List CandidateReg) → Computed (self .order) (now (regs .entry)) (now (weights .entry)) hs → length hs ≤ 65 → r ≡ clearIn (lentTo (listsIn (slices (now (j64 .entry)) (now (j32 .entry)) (now (j16 .entry)) [] [])) (now (ends .entry)) (now (rests .entry)) (self .v)) (now (j64 .entry)) (heldIn (now (words .entry))) (now (jf .entry)) hs (self .flag) c) ⌝ }
+    {
+        if !self.wants_preferred(c, weights) {
+            return takes(c);
+        }
+        let v = self.v;
+        let order = self.order;
         let best = try_evict_for_preferred_reg(
             c,
             order,
             regs,
             weights,
-            maps,
-            held,
-            spills,
+            j64,
+            words,
+            jf,
             ends,
             rests,
-            uses,
-            froms,
-            tos,
-            values,
+            from(j64, USES),
+            froms_of(v, j32, j16),
+            tos_of(v, j32, j16),
+            values_of(v, j16),
         );
         if best.found {
-            let to = best.to;
-            let evicted = best.holders;
-            return Decided {
-                fate: Fate::Evicts,
-                to,
-                flag: true,
-                evicted,
-            };
+            return evicts(best, true);
         }
-        return taken;
+        takes(c)
     }
-    taken
-}
 
-// No candidate is clear: at stage Evict the least cost decides, or whether the spill weight is infinite; at stage Split the number is left over.
-fn with_none_clear(
-    stage: Stage,
-    flag: bool,
-    own: f32,
-    order: AllocationOrder,
-    regs: &[u8],
-    weights: &[f32],
-    class: &[u8],
-    maps: &[u64],
-    held: &[f32],
-    spills: &[f32],
-    ends: &[u64],
-    rests: &[u64],
-    uses: &[u64],
-    froms: &[u32],
-    tos: &[u32],
-    values: &[u16],
-) -> Decided
-    ensures { λ r. ⌜ ((hs : List CandidateReg) → Computed order (now (regs .entry)) (now (weights .entry)) hs → length hs + length (now (class .entry)) ≤ 129 → r ≡ noneClearIn (lent (now (ends .entry)) (now (rests .entry)) (now (uses .entry)) (now (froms .entry)) (now (tos .entry)) (now (values .entry))) (now (maps .entry)) (now (held .entry)) (now (spills .entry)) flag own (offersFrom hs (now (class .entry)) 0) stage) ⌝ }
-{
-    let Stage::Evict = stage else {
-        return without_reg(Fate::Leaves);
-    };
-    let best = try_evict(
-        order,
-        regs,
-        weights,
-        class,
-        maps,
-        held,
-        spills,
-        flag,
-        own,
-        ends,
-        rests,
-        uses,
-        froms,
-        tos,
-        values,
-    );
-    if best.found {
-        let to = best.to;
-        let cost = best.cost;
-        let evicted = best.holders;
-        return Decided {
-            fate: Fate::Evicts,
-            to,
-            flag: !(cost.spill_weight < own),
-            evicted,
+    // The candidate whose holders cost least to evict, if there is one.
+    fn cheapest(
+        self,
+        regs: &[u8],
+        weights: &[f32],
+        words: &[u64],
+        j64: &[u64],
+        j32: &[u32],
+        j16: &[u16],
+        j8: &[u8],
+        jf: &[f32],
+        ends: &[u64],
+        rests: &[u64],
+    ) -> Best
+        ensures { λ r. ⌜ ((hs : List CandidateReg) → Computed (self .order) (now (regs .entry)) (now (weights .entry)) hs → length hs + length (classIn (listsIn (slices [] [] (now (j16 .entry)) (now (j8 .entry)) [])) (self .v)) ≤ 129 → r ≡ evictIn (lentTo (listsIn (slices (now (j64 .entry)) (now (j32 .entry)) (now (j16 .entry)) [] [])) (now (ends .entry)) (now (rests .entry)) (self .v)) (now (j64 .entry)) (heldIn (now (words .entry))) (now (jf .entry)) (self .flag) (self .«spill_weight») noBest (offersFrom hs (classIn (listsIn (slices [] [] (now (j16 .entry)) (now (j8 .entry)) [])) (self .v)) 0)) ⌝ }
+    {
+        let v = self.v;
+        let order = self.order;
+        try_evict(
+            order,
+            regs,
+            weights,
+            class_of(v, j16, j8),
+            j64,
+            words,
+            jf,
+            self.flag,
+            self.spill_weight,
+            ends,
+            rests,
+            from(j64, USES),
+            froms_of(v, j32, j16),
+            tos_of(v, j32, j16),
+            values_of(v, j16),
+        )
+    }
+
+    // No candidate is clear: at stage Evict the least cost decides, or whether the spill weight is infinite; at stage Split the number is left over.
+    fn with_none_clear(
+        self,
+        regs: &[u8],
+        weights: &[f32],
+        words: &[u64],
+        j64: &[u64],
+        j32: &[u32],
+        j16: &[u16],
+        j8: &[u8],
+        jf: &[f32],
+        ends: &[u64],
+        rests: &[u64],
+    ) -> Decided
+        ensures { λ r. ⌜ ((hs : List CandidateReg) → Computed (self .order) (now (regs .entry)) (now (weights .entry)) hs → length hs + length (classIn (listsIn (slices [] [] (now (j16 .entry)) (now (j8 .entry)) [])) (self .v)) ≤ 129 → r ≡ noneClearIn (lentTo (listsIn (slices (now (j64 .entry)) (now (j32 .entry)) (now (j16 .entry)) [] [])) (now (ends .entry)) (now (rests .entry)) (self .v)) (now (j64 .entry)) (heldIn (now (words .entry))) (now (jf .entry)) (self .flag) (self .«spill_weight») (offersFrom hs (classIn (listsIn (slices [] [] (now (j16 .entry)) (now (j8 .entry)) [])) (self .v)) 0) (self .stage)) ⌝ }
+    {
+        let stage = self.stage;
+        let Stage::Evict = stage else {
+            return without_reg(Fate::Leaves);
         };
+        let best = self.cheapest(regs, weights, words, j64, j32, j16, j8, jf, ends, rests);
+        if best.found {
+            let cost = best.cost;
+            return evicts(best, !(cost.spill_weight < self.spill_weight));
+        }
+        if is_infinite(self.spill_weight) {
+            return without_reg(Fate::Fails);
+        }
+        without_reg(Fate::Splits)
     }
-    if is_infinite(own) {
-        return without_reg(Fate::Fails);
-    }
-    without_reg(Fate::Splits)
-}
 
-// The decision by what was found of the candidates of an order.
-fn by_found(
-    found: Available,
-    stage: Stage,
-    flag: bool,
-    own: f32,
-    order: AllocationOrder,
-    regs: &[u8],
-    weights: &[f32],
-    class: &[u8],
-    maps: &[u64],
-    held: &[f32],
-    spills: &[f32],
-    ends: &[u64],
-    rests: &[u64],
-    uses: &[u64],
-    froms: &[u32],
-    tos: &[u32],
-    values: &[u16],
-) -> Decided
-    ensures { λ r. ⌜ ((hs : List CandidateReg) → Computed order (now (regs .entry)) (now (weights .entry)) hs → length hs ≤ 65 → length (now (class .entry)) ≤ 64 → r ≡ foundIn (lent (now (ends .entry)) (now (rests .entry)) (now (uses .entry)) (now (froms .entry)) (now (tos .entry)) (now (values .entry))) (now (maps .entry)) (now (held .entry)) (now (spills .entry)) hs flag own (offersFrom hs (now (class .entry)) 0) stage found) ⌝ }
-{
-    match found {
-        Available::NoCandidates => without_reg(Fate::Leaves),
-        Available::Clear(c) => with_clear(
-            c,
-            flag,
-            order,
-            regs,
-            weights,
-            maps,
-            held,
-            spills,
-            ends,
-            rests,
-            uses,
-            froms,
-            tos,
-            values,
-        ),
-        Available::NoneClear => with_none_clear(
-            stage,
-            flag,
-            own,
-            order,
-            regs,
-            weights,
-            class,
-            maps,
-            held,
-            spills,
-            ends,
-            rests,
-            uses,
-            froms,
-            tos,
-            values,
-        ),
+    // The decision by the candidates of the order.
+    fn in_order(
+        self,
+        regs: &[u8],
+        weights: &[f32],
+        words: &[u64],
+        j64: &[u64],
+        j32: &[u32],
+        j16: &[u16],
+        j8: &[u8],
+        jf: &[f32],
+        ends: &[u64],
+        rests: &[u64],
+    ) -> Decided
+        ensures { λ r. ⌜ ((hs : List CandidateReg) → Computed (self .order) (now (regs .entry)) (now (weights .entry)) hs → length hs ≤ 65 → length (classIn (listsIn (slices [] [] (now (j16 .entry)) (now (j8 .entry)) [])) (self .v)) ≤ 64 → r ≡ inOrder (lentTo (listsIn (slices (now (j64 .entry)) (now (j32 .entry)) (now (j16 .entry)) [] [])) (now (ends .entry)) (now (rests .entry)) (self .v)) (now (j64 .entry)) (heldIn (now (words .entry))) (now (jf .entry)) hs (classIn (listsIn (slices [] [] (now (j16 .entry)) (now (j8 .entry)) [])) (self .v)) (self .flag) (self .«spill_weight») (self .stage)) ⌝ }
+    {
+        match self.available(regs, weights, j64, j32, j16, j8, ends, rests) {
+            Available::NoCandidates => without_reg(Fate::Leaves),
+            Available::Clear(c) => {
+                self.with_clear(c, regs, weights, words, j64, j32, j16, jf, ends, rests)
+            }
+            Available::NoneClear => {
+                self.with_none_clear(regs, weights, words, j64, j32, j16, j8, jf, ends, rests)
+            }
+        }
     }
 }
 
-// The decision by the candidates of an order.
-fn in_order(
-    stage: Stage,
-    flag: bool,
-    own: f32,
-    order: AllocationOrder,
-    regs: &[u8],
-    weights: &[f32],
-    class: &[u8],
-    maps: &[u64],
-    held: &[f32],
-    spills: &[f32],
-    ends: &[u64],
-    rests: &[u64],
-    uses: &[u64],
-    froms: &[u32],
-    tos: &[u32],
-    values: &[u16],
-) -> Decided
-    ensures { λ r. ⌜ ((hs : List CandidateReg) → Computed order (now (regs .entry)) (now (weights .entry)) hs → length hs ≤ 65 → length (now (class .entry)) ≤ 64 → r ≡ inOrder (lent (now (ends .entry)) (now (rests .entry)) (now (uses .entry)) (now (froms .entry)) (now (tos .entry)) (now (values .entry))) (now (maps .entry)) (now (held .entry)) (now (spills .entry)) hs (now (class .entry)) flag own stage) ⌝ }
-{
-    let found = find_available_reg(
-        order,
-        regs,
-        weights,
-        class,
-        maps,
-        ends,
-        rests,
-        uses,
-        froms,
-        tos,
-        values,
-    );
-    by_found(
-        found,
-        stage,
-        flag,
-        own,
-        order,
-        regs,
-        weights,
-        class,
-        maps,
-        held,
-        spills,
-        ends,
-        rests,
-        uses,
-        froms,
-        tos,
-        values,
-    )
-}
-
-// What the dequeue of v from a stage decides, where `held` has the weight with which each number holds its register, and `flag` is v's.
+// What the dequeue of v from a stage decides, where the records stand in the words.
 pub fn decide(
-    held: &[f32],
-    flag: bool,
     v: u16,
     stage: Stage,
-    maps: &[u64],
-    class_starts: &[u16],
-    class_regs: &[u8],
-    uses: &[u64],
-    classes: &[u8],
-    sets: &[u16],
-    spills: &[f32],
-    hint_starts: &[u16],
-    hint_regs: &[u8],
-    hint_weights: &[f32],
-    segment_starts: &[u16],
-    froms: &[u32],
-    tos: &[u32],
-    values: &[u16],
+    words: &[u64],
+    j64: &[u64],
+    j32: &[u32],
+    j16: &[u16],
+    j8: &[u8],
+    jf: &[f32],
     ends: &[u64],
     rests: &[u64],
     last: &[u8],
 ) -> Decided
-    ensures { λ r. ⌜ (length (classIn (reading (now (maps .entry)) (now («class_starts» .entry)) (now («class_regs» .entry)) (now (uses .entry)) (now (classes .entry)) (now (sets .entry)) (now (spills .entry)) (now («hint_starts» .entry)) (now («hint_regs» .entry)) (now («hint_weights» .entry)) (now («segment_starts» .entry)) (now (froms .entry)) (now (tos .entry)) (now (values .entry))) v) ≤ 64 → r ≡ decidedIn (reading (now (maps .entry)) (now («class_starts» .entry)) (now («class_regs» .entry)) (now (uses .entry)) (now (classes .entry)) (now (sets .entry)) (now (spills .entry)) (now («hint_starts» .entry)) (now («hint_regs» .entry)) (now («hint_weights» .entry)) (now («segment_starts» .entry)) (now (froms .entry)) (now (tos .entry)) (now (values .entry))) (now (ends .entry)) (now (rests .entry)) (now (last .entry)) (now (held .entry)) flag v stage) ⌝ }
+    ensures { λ r. ⌜ (length (classIn (listsIn (slices (now (j64 .entry)) (now (j32 .entry)) (now (j16 .entry)) (now (j8 .entry)) (now (jf .entry)))) v) ≤ 64 → r ≡ decidedIn (listsIn (slices (now (j64 .entry)) (now (j32 .entry)) (now (j16 .entry)) (now (j8 .entry)) (now (jf .entry)))) (now (ends .entry)) (now (rests .entry)) (now (last .entry)) (heldIn (now (words .entry))) (flagIn (recordIn (getD (now (words .entry)) v 0))) v stage) ⌝ }
 {
+    let i = v as usize;
     let mut regs = [0u8; 65];
     let mut weights = [0.0; 65];
-    let order = compute(
-        of8(hint_starts, v, hint_regs),
-        of_float(hint_starts, v, hint_weights),
-        last_given(last, sets, v),
-        &mut regs,
-        &mut weights,
-    );
-    let kind = at8(classes, v as usize);
-    in_order(
+    let order = order_of(v, j16, j8, jf, last, &mut regs, &mut weights);
+    let d = Dequeued {
+        v,
         stage,
-        flag,
-        at_float(spills, v as usize),
+        flag: flag_of(record_of(at(words, i))),
+        spill_weight: at_float(jf, i),
         order,
-        &regs,
-        &weights,
-        of8(class_starts, kind as u16, class_regs),
-        maps,
-        held,
-        spills,
-        ends,
-        rests,
-        uses,
-        of32(segment_starts, v, froms),
-        of32(segment_starts, v, tos),
-        of16(segment_starts, v, values),
-    )
+    };
+    d.in_order(&regs, &weights, words, j64, j32, j16, j8, jf, ends, rests)
 }

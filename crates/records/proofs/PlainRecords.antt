@@ -2,11 +2,11 @@
 use Prim.Native.Nat.{_<_}
 use native.Mathlib.Omega.{arith}
 use native.Mathlib.Decide.{decLt}
-use mathlib.Core.Path.{_≡_, refl, sym, subst}
+use mathlib.Core.Path.{_≡_, refl, sym, subst, _∙_}
 use mathlib.Core.List.{map}
 use mathlib.Core.Option.{Option, none, some}
 use mathlib.Core.Bool.{Bool, true, false}
-use lib.ListN.{getD, length-map, List·getD-eq-default}
+use lib.ListN.{length, getD, length-map, List·getD-eq-default}
 use Rattle.reg_matrix.specs.Lists.{count}
 use Rattle.reg_matrix.proofs.Places.{from-zero, count-length}
 use Rattle.job.specs.Model.{Job, Plain}
@@ -33,3 +33,7 @@ plain-records j s reach v = go (decLt v 512)
         (held-plain (isLeftOver s v) (flag s v) (heldBy s v) (λ c q. good-reached j s reach .agrees .holder v c q .1 .plain))
     go (no h) =
         subst PlainRecord (sym (List·getD-eq-default (map (recordOf s) (count 0 512)) Dead (omega (arith, h, length-map (count 0 512) (recordOf s), count-length 0 512)))) plain-zero
+
+pub records-length : (s : State) → length (records s) ≡ 512
+unfolding records
+records-length s = length-map (count 0 512) (recordOf s) ∙ count-length 0 512

@@ -1,12 +1,12 @@
 -- What a record's word says when it is read again. Assumes nothing.
-use Prim.Native.Nat.{ℕ, _+_, _-_, _*_, _%_, _/_, _≤_, _<_}
+use Prim.Native.Nat.{ℕ, zero, suc, _+_, _-_, _*_, _%_, _/_, _≤_, _<_}
 use native.Mathlib.Omega.{arith}
 use native.Mathlib.Numerals.{add-one}
 use mathlib.Core.Path.{_≡_, refl, sym, ap, subst, _∙_}
-use mathlib.Core.List.{List, map}
+use mathlib.Core.List.{List, [], _∷_, map}
 use mathlib.Core.Bool.{Bool, true, false, not}
 use lib.Dec.{T, eqb}
-use lib.ListN.{length, getD, set, drop, length-map, length-set}
+use lib.ListN.{length, getD, set, drop, length-map, length-set, List·getD-map}
 use lib.Seq.{sets, drop-cons, drop-length, getD-set-same, getD-set-other, ext-getD}
 use lib.Ieee.{Float, nan, inf, fin, binary32, ofBits, toBits, isNan, fits, ne, eq}
 use lib.Ieee.Compare.{differs-from-itself}
@@ -15,13 +15,14 @@ use borrow.Author.Tests.{ltb-false, le-leb, eqb-true, eqb-false}
 use Rattle.lent.proofs.Laws.{any-default}
 use Rattle.reg_matrix.specs.Lists.{count}
 use Rattle.reg_matrix.proofs.Places.{count-length, from-zero}
-use Rattle.job.specs.Model.{Plain}
+use Rattle.job.specs.Model.{Plain, zeroWeight}
 use Rattle.job.proofs.WeightBits.{nan-bits}
 use Rattle.allocator.specs.declared.Assignment.{Assignment}
 use Rattle.allocator.specs.declared.Assignment.the-variants.{Assigned, Unassigned, Dead}
 use Rattle.records.specs.Fields.{regIn, recordWeight, kindOf}
-use Rattle.records.specs.Words.{weightBits, weightIn, recordWord, recordIn, recordsIn, PlainRecord, AllPlain}
+use Rattle.records.specs.Words.{weightBits, weightIn, recordWord, recordIn, recordsIn, heldIn, PlainRecord, AllPlain, WordsOf}
 use Rattle.records.proofs.FieldLaws.{record-back}
+use Rattle.records.proofs.Filling.{sets-whole}
 
 -- ---- bits
 
@@ -91,6 +92,11 @@ pub first-word : recordWord (Unassigned false) ≡ 0
 unfolding ne eq toBits ofBits
 first-word = refl
 
+-- what is read of a dead record's word
+pub dead-word : recordIn (recordWord Dead) ≡ Dead
+unfolding recordIn ne eq toBits ofBits
+dead-word = refl
+
 -- ---- all records, one after another
 
 pub record-in : (ws : List ℕ) (v : ℕ) → v < 512 → getD (recordsIn ws) v Dead ≡ recordIn (getD ws v 0)
@@ -148,3 +154,52 @@ module _ {rs : List Assignment} {ws₀ ws : List ℕ} {i : ℕ} (h : Storing rs 
     where
       n : length (map (λ v. recordIn (getD ws v 0)) (count 0 512)) ≡ 512
       n = length-map (count 0 512) (λ v. recordIn (getD ws v 0)) ∙ count-length 0 512
+
+-- ---- the words of records
+
+map-set : {A B : Type 0} (f : A → B) (l : List A) (i : ℕ) (x : A) → set (map f l) i (f x) ≡ map f (set l i x)
+map-set f [] i x = refl
+map-set f (y ∷ l) zero x = refl
+map-set {B = B} f (y ∷ l) (suc i) x = ap (λ (t : List B). f y ∷ t) (map-set f l i x)
+
+-- the weight that is read of a number's word
+pub held-read : (ws : List ℕ) (v : ℕ) → v < 512 → getD (heldIn ws) v zeroWeight ≡ recordWeight (recordIn (getD ws v 0))
+unfolding heldIn
+held-read ws v h = List·getD-map recordWeight (recordsIn ws) v Dead ∙ ap recordWeight (record-in ws v h)
+
+-- what was stored in as many words
+pub stored-words : (rs : List Assignment) (ws₀ ws : List ℕ) → length rs ≡ 512 → length ws₀ ≡ 512 → ws ≡ sets ws₀ 0 (map recordWord rs)
+    → (AllPlain rs → 512 ≤ length ws₀ → recordsIn ws ≡ rs) → AllPlain rs → WordsOf rs ws
+stored-words rs ws₀ ws n m e back p =
+    record { words-are = e ∙ sets-whole (map recordWord rs) ws₀ (length-map rs recordWord ∙ n ∙ sym m); read-so = back p (omega (arith, m)) }
+
+module _ {rs : List Assignment} {ws : List ℕ} (w : WordsOf rs ws) where
+  pub word-read : (v : ℕ) → v < 512 → recordIn (getD ws v 0) ≡ getD rs v Dead
+  word-read v h = sym (record-in ws v h) ∙ ap (λ (l : List Assignment). getD l v Dead) (w .read-so)
+
+  pub held-are : heldIn ws ≡ map recordWeight rs
+  unfolding heldIn
+  held-are = ap (λ (l : List Assignment). map recordWeight l) (w .read-so)
+
+  -- one record more is stored
+  pub word-set : length rs ≡ 512 → (v x : ℕ) (a : Assignment) → x ≡ recordWord a → recordIn x ≡ a → WordsOf (set rs v a) (set ws v x)
+  unfolding recordsIn
+  word-set n v x a e b =
+      record {
+        words-are = rw (w .words-are, e) (map-set recordWord rs v a);
+        read-so =
+            ext-getD Dead (map (λ i. recordIn (getD (set ws v x) i 0)) (count 0 512)) (set rs v a) (size ∙ sym (simp length-set n))
+            (λ i h. let k : i < 512 = omega (arith, size) in from-zero (λ i. recordIn (getD (set ws v x) i 0)) Dead 512 i k ∙ at-place i k (eqb i v) refl);
+      }
+    where
+      size : length (map (λ i. recordIn (getD (set ws v x) i 0)) (count 0 512)) ≡ 512
+      size = length-map (count 0 512) (λ i. recordIn (getD (set ws v x) i 0)) ∙ count-length 0 512
+
+      long : length ws ≡ 512
+      long = ap length (w .words-are) ∙ length-map rs recordWord ∙ n
+
+      at-place : (i : ℕ) → i < 512 → (t : Bool) → eqb i v ≡ t → recordIn (getD (set ws v x) i 0) ≡ getD (set rs v a) i Dead
+      at-place i h true q =
+          let k : i ≡ v = eqb-true i v q in
+          rw (k, getD-set-same ws v x 0 (omega (arith, long)), getD-set-same rs v a Dead (omega (arith, n))) b
+      at-place i h false q = let k = eqb-false i v q in rw (getD-set-other ws v i x 0 k, getD-set-other rs v i a Dead k) (word-read i h)

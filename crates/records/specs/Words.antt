@@ -1,5 +1,6 @@
 -- A record as a word (document 01, "Where the Rust's forms give way": `Assignment`), for callers that hold records in lent numbers. Assumes nothing.
 use Prim.Native.Nat.{ℕ, _+_, _*_, _%_, _/_}
+use mathlib.Core.Path.{_≡_}
 use mathlib.Core.List.{List, map}
 use mathlib.Core.Bool.{cond}
 use lib.Dec.{leb}
@@ -35,6 +36,10 @@ recordIn x = recordBy (x % 256) (x / 256 % 256) (weightIn (x / 65536 % 429496729
 unfoldable pub recordsIn : List ℕ → List Assignment
 recordsIn ws = map (λ v. recordIn (getD ws v 0)) (count 0 512)
 
+-- the weights with which the numbers hold their registers, 0 where they hold none
+unfoldable pub heldIn : List ℕ → List Float
+heldIn ws = map recordWeight (recordsIn ws)
+
 -- ---- records that are the same when they are read again
 
 -- its weight is no NaN and carries no sign, as on every state that calls reach
@@ -43,3 +48,8 @@ PlainRecord a = Plain (recordWeight a)
 
 abbrev pub AllPlain : List Assignment → Type 0
 AllPlain rs = (v : ℕ) → PlainRecord (getD rs v Dead)
+
+-- the words of these records, which read as them
+pub record WordsOf (rs : List Assignment) (ws : List ℕ) : Type 0 where
+  pub words-are : ws ≡ map recordWord rs
+  pub read-so : recordsIn ws ≡ rs

@@ -2,9 +2,10 @@
 ghost use mathlib.Core.Path.{_≡_};
 ghost use mathlib.Core.List.{map};
 ghost use Prim.Native.Nat.{_≤_};
-ghost use lib.ListN.{length};
+ghost use lib.ListN.{length, getD};
 ghost use lib.Seq.{sets};
 ghost use Rattle.job.specs.Model.{Plain};
+ghost use Rattle.records.specs.Fields.{recordWeight};
 ghost use Rattle.records.specs.Words.{weightBits, weightIn, recordWord, recordIn, recordsIn, PlainRecord, AllPlain};
 use crate::assignment::held_weight;
 use crate::assignment::kind_of;
@@ -51,6 +52,13 @@ pub fn record_of(word: u64) -> Assignment
         (word / 256 % 256) as u8,
         weight_in(bits),
     )
+}
+
+// The weight with which the number i holds its register, or 0.
+pub fn held_at(words: &[u64], i: usize) -> f32
+    ensures { λ r. ⌜ r ≡ recordWeight (recordIn (getD (now (words .entry)) i 0)) ⌝ }
+{
+    held_weight(record_of(at(words, i)))
 }
 
 // Stores the words of the records, one after another from the front. What there is no room for is not stored. Read again, they are the records, if all

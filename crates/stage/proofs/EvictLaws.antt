@@ -210,6 +210,10 @@ module _ (j : Job) (s : State) (ws : List Float) (ss : List Float)
 
 -- ---- one report of the code's loop: the rest of the walk from here is the whole
 
+-- what was tried so far, where nothing ruled the candidate out
+pub going-on : (t : Tried) → t .«ruled_out» ≡ false → t ≡ tried (t .cost) (t .«every_report») (t .holders) false
+going-on t e = ap (λ (b : Bool). tried (t .cost) (t .«every_report») (t .holders) b) e
+
 module _ (W : Lent) (c : Cursor) (x : Step) (told : remaining W c ≡ heard W x) (r : Interference) (d : Cursor) (q : x ≡ Report r d) where
   pub next-is : remaining W c ≡ r ∷ remaining W d
   next-is = told ∙ rw q

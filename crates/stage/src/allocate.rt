@@ -6,15 +6,14 @@ ghost use Rattle.reg_matrix.specs.Lists.{isNil};
 ghost use Rattle.matrix.specs.Walk.{lent};
 ghost use Rattle.allocator.specs.declared.CandidateReg.{CandidateReg};
 ghost use Rattle.order.specs.OrderWalk.{Computed, offersFrom};
-ghost use Rattle.stage.specs.EvictWalk.{triedBelow};
-ghost use Rattle.stage.specs.AllocateWalk.{reportsOn, noneOf, availableIn, noBest, byCost, improves, evictIn, byWeight, prefers, preferIn};
+ghost use Rattle.records.specs.Words.{heldIn};
+ghost use Rattle.stage.specs.AllocateWalk.{reportsOn, noneOf, availableIn, noBest, taking, byCost, improves, evictIn, byWeight, prefers, preferIn};
 ghost use Prim.Native.Nat.{_+_, _≤_};
 ghost use lib.ListN.{length};
 use crate::evict::Limit;
 use crate::evict::Tried;
 use crate::evict::is_cheaper;
 use crate::evict::may_evict;
-use crate::evict::try_reports;
 use allocator::CandidateReg;
 use allocator::EvictCost;
 use lent::at;
@@ -115,36 +114,6 @@ pub fn find_available_reg(
     none_of(tried)
 }
 
-// What the check of the segments on a register's units says of evicting its holders, as far as the candidate may still win.
-fn try_on(
-    held: &[f32],
-    spills: &[f32],
-    limit: Limit,
-    units: u64,
-    ends: &[u64],
-    rests: &[u64],
-    uses: &[u64],
-    froms: &[u32],
-    tos: &[u32],
-    values: &[u16],
-) -> Tried
-    ensures { λ r. ⌜ r ≡ triedBelow limit (now (held .entry)) (now (spills .entry)) (reportsOn (lent (now (ends .entry)) (now (rests .entry)) (now (uses .entry)) (now (froms .entry)) (now (tos .entry)) (now (values .entry))) units) ⌝ }
-{
-    let c = enter(ends, froms, units, false);
-    try_reports(
-        held,
-        spills,
-        limit,
-        c,
-        ends,
-        rests,
-        uses,
-        froms,
-        tos,
-        values,
-    )
-}
-
 fn none_yet() -> Best
     ensures { λ r. ⌜ r ≡ noBest ⌝ }
 {
@@ -191,6 +160,20 @@ fn is_better(flag: bool, own: f32, c: CandidateReg, t: Tried, best: EvictCost) -
     }
 }
 
+// The candidate as the best one, at what it was found to cost and with its holders.
+fn found(c: CandidateReg, t: Tried) -> Best
+    ensures { λ r. ⌜ r ≡ taking c t ⌝ }
+{
+    let cost = t.cost;
+    let holders = t.holders;
+    Best {
+        found: true,
+        to: c,
+        cost,
+        holders,
+    }
+}
+
 // The search for a register to evict from: the least cost wins, the first on ties.
 pub fn try_evict(
     order: AllocationOrder,
@@ -198,7 +181,7 @@ pub fn try_evict(
     weights: &[f32],
     class: &[u8],
     maps: &[u64],
-    held: &[f32],
+    words: &[u64],
     spills: &[f32],
     flag: bool,
     own: f32,
@@ -209,7 +192,7 @@ pub fn try_evict(
     tos: &[u32],
     values: &[u16],
 ) -> Best
-    ensures { λ r. ⌜ ((hs : List CandidateReg) → Computed order (now (regs .entry)) (now (weights .entry)) hs → length hs + length (now (class .entry)) ≤ 129 → r ≡ evictIn (lent (now (ends .entry)) (now (rests .entry)) (now (uses .entry)) (now (froms .entry)) (now (tos .entry)) (now (values .entry))) (now (maps .entry)) (now (held .entry)) (now (spills .entry)) flag own noBest (offersFrom hs (now (class .entry)) 0)) ⌝ }
+    ensures { λ r. ⌜ ((hs : List CandidateReg) → Computed order (now (regs .entry)) (now (weights .entry)) hs → length hs + length (now (class .entry)) ≤ 129 → r ≡ evictIn (lent (now (ends .entry)) (now (rests .entry)) (now (uses .entry)) (now (froms .entry)) (now (tos .entry)) (now (values .entry))) (now (maps .entry)) (heldIn (now (words .entry))) (now (spills .entry)) flag own noBest (offersFrom hs (now (class .entry)) 0)) ⌝ }
 {
     let mut best = none_yet();
     let mut i = 0;
@@ -217,34 +200,15 @@ pub fn try_evict(
         let place = i;
         i += 1;
         match candidate(order, regs, weights, class, place) {
-            Offer::End => {
-                return best;
-            }
+            Offer::End => return best,
             Offer::Skip => {}
             Offer::Reg(c) => {
                 let units = at(maps, wide(c.reg));
                 let so_far = best.cost;
-                let t = try_on(
-                    held,
-                    spills,
-                    by_cost(flag, own, c, so_far),
-                    units,
-                    ends,
-                    rests,
-                    uses,
-                    froms,
-                    tos,
-                    values,
-                );
+                let l = by_cost(flag, own, c, so_far);
+                let t = l.try_reports(units, words, spills, ends, rests, uses, froms, tos, values);
                 if is_better(flag, own, c, t, so_far) {
-                    let cost = t.cost;
-                    let holders = t.holders;
-                    best = Best {
-                        found: true,
-                        to: c,
-                        cost,
-                        holders,
-                    };
+                    best = found(c, t);
                 }
             }
         }
@@ -290,7 +254,7 @@ pub fn try_evict_for_preferred_reg(
     regs: &[u8],
     weights: &[f32],
     maps: &[u64],
-    held: &[f32],
+    words: &[u64],
     spills: &[f32],
     ends: &[u64],
     rests: &[u64],
@@ -299,7 +263,7 @@ pub fn try_evict_for_preferred_reg(
     tos: &[u32],
     values: &[u16],
 ) -> Best
-    ensures { λ r. ⌜ ((hs : List CandidateReg) → Computed order (now (regs .entry)) (now (weights .entry)) hs → length hs ≤ 65 → r ≡ preferIn (lent (now (ends .entry)) (now (rests .entry)) (now (uses .entry)) (now (froms .entry)) (now (tos .entry)) (now (values .entry))) (now (maps .entry)) (now (held .entry)) (now (spills .entry)) clear hs) ⌝ }
+    ensures { λ r. ⌜ ((hs : List CandidateReg) → Computed order (now (regs .entry)) (now (weights .entry)) hs → length hs ≤ 65 → r ≡ preferIn (lent (now (ends .entry)) (now (rests .entry)) (now (uses .entry)) (now (froms .entry)) (now (tos .entry)) (now (values .entry))) (now (maps .entry)) (heldIn (now (words .entry))) (now (spills .entry)) clear hs) ⌝ }
 {
     let mut i = 0;
     while i < 65 {
@@ -313,27 +277,10 @@ pub fn try_evict_for_preferred_reg(
             preference_weight: at_float(weights, place),
         };
         let units = at(maps, wide(c.reg));
-        let t = try_on(
-            held,
-            spills,
-            by_weight(c),
-            units,
-            ends,
-            rests,
-            uses,
-            froms,
-            tos,
-            values,
-        );
+        let limit = by_weight(c);
+        let t = limit.try_reports(units, words, spills, ends, rests, uses, froms, tos, values);
         if is_preferred(clear, c, t) {
-            let cost = t.cost;
-            let holders = t.holders;
-            return Best {
-                found: true,
-                to: c,
-                cost,
-                holders,
-            };
+            return found(c, t);
         }
     }
     none_yet()

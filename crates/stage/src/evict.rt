@@ -1,12 +1,18 @@
 // Costs of an eviction (`evict.rs`): two weights held together and replaced together.
 ghost use mathlib.Core.Path.{_≡_};
+ghost use mathlib.Core.Bool.{false};
+ghost use lib.ListN.{replicate};
+ghost use Rattle.job.specs.Model.{zeroWeight};
 ghost use Rattle.allocator.specs.Evict.{maxWeight, cheaper};
-ghost use Rattle.stage.specs.EvictWalk.{addHolder, mayEvict, canWin, withHolder, triedBelow};
-ghost use Rattle.matrix.specs.Walk.{lent, remaining};
+ghost use Rattle.records.specs.Words.{heldIn};
+ghost use Rattle.matrix.specs.Walk.{lent};
+ghost use Rattle.stage.specs.EvictWalk.{addHolder, mayEvict, canWin, withHolder, zeroCost, tried, triedBelow};
+ghost use Rattle.stage.specs.AllocateWalk.{reportsOn};
 use allocator::EvictCost;
 use lent::at_float;
-use matrix::Cursor;
 use matrix::Step;
+use matrix::check::enter;
+use records::words::held_at;
 use reg_matrix::InterferenceKind;
 
 // What a check's reports say of a candidate: the cost with each holder counted once, the holders' weights added at every report, who the
@@ -96,63 +102,64 @@ fn with_holder(cost: EvictCost, seen: bool, held: f32, spill: f32) -> EvictCost
     add_holder(cost, held, spill)
 }
 
-// What a check reports from a position on, where `held` has the weight with which each number holds its register: each holder once for the cost, and
-// at every report for the sum, in the order of the reports. It ends where the candidate can no longer win, which rules it out; as weights never fall
-// when they are added, the rest would not help it.
-pub fn try_reports(
-    held: &[f32],
-    spills: &[f32],
-    limit: Limit,
-    start: Cursor,
-    ends: &[u64],
-    rests: &[u64],
-    uses: &[u64],
-    froms: &[u32],
-    tos: &[u32],
-    values: &[u16],
-) -> Tried
-    ensures { λ r. ⌜ r ≡ triedBelow limit (now (held .entry)) (now (spills .entry)) (remaining (lent (now (ends .entry)) (now (rests .entry)) (now (uses .entry)) (now (froms .entry)) (now (tos .entry)) (now (values .entry))) start) ⌝ }
+// Nothing reported yet.
+fn nothing_tried() -> Tried
+    ensures { λ r. ⌜ r ≡ tried zeroCost zeroWeight (replicate 512 false) false ⌝ }
 {
-    let mut cost = EvictCost {
-        preference_weight: 0.0,
-        spill_weight: 0.0,
-    };
-    let mut every_report = 0.0;
-    let mut holders = [false; 512];
-    let mut c = start;
-    loop {
-        let Step::Report(report, next) = c.next(ends, rests, uses, froms, tos, values) else {
-            return Tried {
-                cost,
-                every_report,
-                holders,
-                ruled_out: false,
+    Tried {
+        cost: EvictCost {
+            preference_weight: 0.0,
+            spill_weight: 0.0,
+        },
+        every_report: 0.0,
+        holders: [false; 512],
+        ruled_out: false,
+    }
+}
+
+impl Limit {
+    // What the check of the segments on a register's units says of evicting its holders, where `words` has the records: each holder once for the cost,
+    // and at every report for the sum, in the order of the reports. It ends where the candidate can no longer win, which rules it out; as weights never
+    // fall when they are added, the rest would not help it.
+    pub fn try_reports(
+        self,
+        units: u64,
+        words: &[u64],
+        spills: &[f32],
+        ends: &[u64],
+        rests: &[u64],
+        uses: &[u64],
+        froms: &[u32],
+        tos: &[u32],
+        values: &[u16],
+    ) -> Tried
+        ensures { λ r. ⌜ r ≡ triedBelow self (heldIn (now (words .entry))) (now (spills .entry)) (reportsOn (lent (now (ends .entry)) (now (rests .entry)) (now (uses .entry)) (now (froms .entry)) (now (tos .entry)) (now (values .entry))) units) ⌝ }
+    {
+        let mut t = nothing_tried();
+        let mut c = enter(ends, froms, units, false);
+        loop {
+            let Step::Report(report, next) = c.next(ends, rests, uses, froms, tos, values) else {
+                return t;
             };
-        };
-        let kind = report.kind;
-        let InterferenceKind::VirtReg(v) = kind else {
-            return Tried {
-                cost,
-                every_report,
-                holders,
-                ruled_out: true,
+            let kind = report.kind;
+            let InterferenceKind::VirtReg(v) = kind else {
+                t.ruled_out = true;
+                return t;
             };
-        };
-        c = next;
-        let i = v as usize;
-        if i < 512 {
-            let weight = at_float(held, i);
-            let seen = holders[i];
-            every_report = every_report + weight;
-            cost = with_holder(cost, seen, weight, at_float(spills, i));
-            holders[i] = true;
-            if !can_win(limit, cost, every_report) {
-                return Tried {
-                    cost,
-                    every_report,
-                    holders,
-                    ruled_out: true,
-                };
+            c = next;
+            let i = v as usize;
+            if i < 512 {
+                let weight = held_at(words, i);
+                let seen = t.holders[i];
+                let before = t.cost;
+                let cost = with_holder(before, seen, weight, at_float(spills, i));
+                t.cost = cost;
+                t.every_report = t.every_report + weight;
+                t.holders[i] = true;
+                if !can_win(self, cost, t.every_report) {
+                    t.ruled_out = true;
+                    return t;
+                }
             }
         }
     }

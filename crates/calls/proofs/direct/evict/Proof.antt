@@ -1,4 +1,6 @@
 use borrow.Author.Needs.{needs}
+use Rattle.job.specs.Layout.{slices}
+use Rattle.run_loop.specs.Running.{lentState}
 use Rattle.calls.proofs.DirectLaws.{evicting-refused, evicting-done}
 use Rattle.calls.proofs.direct.evict.Statement.{statement}
 use Rattle.calls.proofs.direct.evict.Tie as tie
@@ -12,29 +14,23 @@ short-buffers-requires c κs = search needs
 evict-refusal-requires : tie.Need-evict-refusal-requires
 evict-refusal-requires c κs = search needs
 
+same-length : tie.Need-same-length
+same-length c = search needs
+
+same-length-2 : tie.Need-same-length-2
+same-length-2 c = search needs
+
+same-length-3 : tie.Need-same-length-3
+same-length-3 c = search needs
+
 returns : tie.Need-returns
-returns c = evicting-refused _ _ _ _ _ _ (c .before .before .before .record-at .ensures) _ (c .before .before .short-buffers .ensures) _ (c .before .evict-refusal .ensures) (c .if1 .taken)
+returns c = evicting-refused _ (slices (c .before .before .before .before .before .before .before .before .before .before .before .before .before .before .before .before .args .j64 .now) (c .before .before .before .before .before .before .before .before .before .before .before .before .before .before .before .before .args .j32 .now) (c .before .before .before .before .before .before .before .before .before .before .before .before .before .before .before .before .args .j16 .now) (c .before .before .before .before .before .before .before .before .before .before .before .before .before .before .before .before .args .j8 .now) (c .before .before .before .before .before .before .before .before .before .before .before .before .before .before .before .before .args .jf .now)) _ (lentState (c .before .before .before .before .before .before .before .before .before .before .before .before .before .before .before .before .args .ends .now) (c .before .before .before .before .before .before .before .before .before .before .before .before .before .before .before .before .args .rests .now) (c .before .before .before .before .before .before .before .before .before .before .before .before .before .before .before .before .args .queue .now) (c .before .before .before .before .before .before .before .before .before .before .before .before .before .before .before .before .args .last .now)) _ _ (c .before .before .before .before .before .before .record-at .ensures) _ (c .before .before .short-buffers .ensures) _ (c .before .evict-refusal .ensures) (c .if1 .taken)
 
 reg-of-requires : tie.Need-reg-of-requires
 reg-of-requires c κs = search needs
 
 wide-requires : tie.Need-wide-requires
 wide-requires c κs = search needs
-
-from-requires : tie.Need-from-requires
-from-requires c κs = search needs
-
-from32-requires : tie.Need-from32-requires
-from32-requires c κs = search needs
-
-from16-requires : tie.Need-from16-requires
-from16-requires c κs = search needs
-
-from16-requires-2 : tie.Need-from16-requires-2
-from16-requires-2 c κs = search needs
-
-from32-requires-2 : tie.Need-from32-requires-2
-from32-requires-2 c κs = search needs
 
 take-back-requires : tie.Need-take-back-requires
 take-back-requires c κs = search needs
@@ -45,19 +41,17 @@ flag-of-requires c κs = search needs
 with-record-requires : tie.Need-with-record-requires
 with-record-requires c κs = search needs
 
-same-length : tie.Need-same-length
-same-length c = search needs
+same-length-4 : tie.Need-same-length-4
+same-length-4 c = search needs
 
-same-length-2 : tie.Need-same-length-2
-same-length-2 c = search needs
+same-length-5 : tie.Need-same-length-5
+same-length-5 c = search needs
 
-same-length-3 : tie.Need-same-length-3
-same-length-3 c = search needs
+same-length-6 : tie.Need-same-length-6
+same-length-6 c = search needs
 
 returns-2 : tie.Need-returns-2
-returns-2 c =
-    evicting-done _ _ _ _ _ _ (c .before .before .before .before .before .before .before .before .before .before .before .before .before .before .before .before .before .before .before .before .before .before .record-at .ensures) _ (c .before .before .before .before .before .before .before .before .before .before .before .before .before .before .before .before .before .before .before .before .before .short-buffers .ensures) _ (c .before .before .before .before .before .before .before .before .before .before .before .before .before .before .before .before .before .before .before .before .evict-refusal .ensures) (c .before .before .before .before .before .before .before .before .before .before .before .before .before .before .before .before .before .before .before .if1 .left) _ _
-    (c .before .before .before .before .before .before .before .before .before .before .before .before .before .before .before .before .before .before .reg-of .ensures) (c .before .before .before .before .before .before .before .before .before .before .before .before .before .before .before .before .before .wide .ensures) _ _ _ (rw (c .before .before .before .before .before .before .before .before .before .before .before .before .before .before .before .before .from .ensures, c .before .before .before .before .before .before .before .before .before .before .before .before .before .before .before .from32 .ensures, c .before .before .before .before .before .before .before .before .before .before .before .before .before .before .from16 .ensures, c .before .before .before .before .before .before .before .before .before .before .before .before .before .from162 .ensures, c .before .before .before .before .before .before .before .before .before .before .before .before .from322 .ensures) at (c .before .before .before .before .before .before .before .before .take-back .ensures)) _ (c .before .flag-of .ensures) _ (c .with-record .ensures)
+returns-2 c = evicting-done _ (slices (c .before .before .before .before .before .before .before .before .before .before .before .before .before .before .before .before .before .before .before .before .before .before .before .before .before .before .before .before .before .before .args .j64 .now) (c .before .before .before .before .before .before .before .before .before .before .before .before .before .before .before .before .before .before .before .before .before .before .before .before .before .before .before .before .before .before .args .j32 .now) (c .before .before .before .before .before .before .before .before .before .before .before .before .before .before .before .before .before .before .before .before .before .before .before .before .before .before .before .before .before .before .args .j16 .now) (c .before .before .before .before .before .before .before .before .before .before .before .before .before .before .before .before .before .before .before .before .before .before .before .before .before .before .before .before .before .before .args .j8 .now) (c .before .before .before .before .before .before .before .before .before .before .before .before .before .before .before .before .before .before .before .before .before .before .before .before .before .before .before .before .before .before .args .jf .now)) _ (lentState (c .before .before .before .before .before .before .before .before .before .before .before .before .before .before .before .before .before .before .before .before .before .before .before .before .before .before .before .before .before .before .args .ends .now) (c .before .before .before .before .before .before .before .before .before .before .before .before .before .before .before .before .before .before .before .before .before .before .before .before .before .before .before .before .before .before .args .rests .now) (c .before .before .before .before .before .before .before .before .before .before .before .before .before .before .before .before .before .before .before .before .before .before .before .before .before .before .before .before .before .before .args .queue .now) (c .before .before .before .before .before .before .before .before .before .before .before .before .before .before .before .before .before .before .before .before .before .before .before .before .before .before .before .before .before .before .args .last .now)) _ _ (c .before .before .before .before .before .before .before .before .before .before .before .before .before .before .before .before .before .before .before .before .record-at .ensures) _ (c .before .before .before .before .before .before .before .before .before .before .before .before .before .before .before .before .short-buffers .ensures) _ (c .before .before .before .before .before .before .before .before .before .before .before .before .before .before .before .evict-refusal .ensures) (c .before .before .before .before .before .before .before .before .before .before .before .before .before .before .if1 .left) _ _ (c .before .before .before .before .before .before .before .before .before .before .before .before .before .reg-of .ensures) (c .before .before .before .before .before .before .before .before .before .before .before .before .wide .ensures) _ _ _ (c .before .before .before .before .before .before .before .before .take-back .ensures) _ (c .before .flag-of .ensures) _ (c .with-record .ensures)
 
 pub evict-spec : {M : Type 1} → statement M
 evict-spec =
@@ -66,18 +60,16 @@ evict-spec =
     record-at-requires
     short-buffers-requires
     evict-refusal-requires
-    returns
-    reg-of-requires
-    wide-requires
-    from-requires
-    from32-requires
-    from16-requires
-    from16-requires-2
-    from32-requires-2
-    take-back-requires
-    flag-of-requires
-    with-record-requires
     same-length
     same-length-2
     same-length-3
+    returns
+    reg-of-requires
+    wide-requires
+    take-back-requires
+    flag-of-requires
+    with-record-requires
+    same-length-4
+    same-length-5
+    same-length-6
     returns-2)

@@ -2,20 +2,22 @@
 use borrow.Author.Needs.{needs}
 use Prim.Native.Nat.{_-_}
 use mathlib.Core.Path.{_≡_, refl, sym, _∙_}
+use mathlib.Core.List.{[]}
 use lib.ListN.{length}
-use Rattle.records.specs.Slices.{lentRecords}
+use Rattle.job.specs.Layout.{slices, listsIn}
+use Rattle.records.specs.Words.{recordIn}
 use Rattle.context.proofs.CarryLaws.{EvictedTo, evict-start, evict-end, evict-pass, evict-idle, evict-one}
 use Rattle.context.proofs.carry.evict_all.Statement.{statement}
 use Rattle.context.proofs.carry.evict_all.Tie as tie
 
 abbrev Inv-loop : tie.InvT-loop
-Inv-loop maps uses sizes hint-starts segment-starts tos ends₀ rests₀ queue₀ kinds₀ regs₀ held₀ gone i₀ ends rests queue kinds regs held i = EvictedTo i gone (lentRecords kinds₀ regs₀ held₀) maps uses sizes hint-starts segment-starts tos ends₀ rests₀ queue₀ (lentRecords kinds regs held) ends rests queue × (length ends ≡ length ends₀) × (length rests ≡ length rests₀) × (length queue ≡ length queue₀) × (length kinds ≡ length kinds₀) × (length regs ≡ length regs₀) × (length held ≡ length held₀)
+Inv-loop j64 j32 j16 ends₀ rests₀ queue₀ words₀ gone i₀ ends rests queue words i = EvictedTo i gone (listsIn (slices j64 j32 j16 [] [])) ends₀ rests₀ queue₀ words₀ ends rests queue words × (length ends ≡ length ends₀) × (length rests ≡ length rests₀) × (length queue ≡ length queue₀) × (length words ≡ length words₀)
 
 abbrev μ-loop : tie.MeasureT-loop
-μ-loop maps uses sizes hint-starts segment-starts tos ends₀ rests₀ queue₀ kinds₀ regs₀ held₀ gone i₀ ends rests queue kinds regs held i = 512 - i
+μ-loop j64 j32 j16 ends₀ rests₀ queue₀ words₀ gone i₀ ends rests queue words i = 512 - i
 
 loop-holds : tie.Need-loop-holds Inv-loop μ-loop
-loop-holds c = (evict-start _ _ _ _ _ _ _ _ _ _ _, refl, refl, refl, refl, refl, refl)
+loop-holds c = (evict-start _ _ _ _ _ _, refl, refl, refl, refl)
 
 add-i : tie.Need-add-i Inv-loop μ-loop
 add-i c = search needs
@@ -23,8 +25,11 @@ add-i c = search needs
 array-read-if1 : tie.Need-array-read-if1 Inv-loop μ-loop
 array-read-if1 c = search needs
 
-record-at-requires : tie.Need-record-at-requires Inv-loop μ-loop
-record-at-requires c κs = search needs
+at-requires : tie.Need-at-requires Inv-loop μ-loop
+at-requires c κs = search needs
+
+record-of-requires : tie.Need-record-of-requires Inv-loop μ-loop
+record-of-requires c κs = search needs
 
 is-assigned-requires : tie.Need-is-assigned-requires Inv-loop μ-loop
 is-assigned-requires c κs = search needs
@@ -32,8 +37,11 @@ is-assigned-requires c κs = search needs
 flag-of-requires : tie.Need-flag-of-requires Inv-loop μ-loop
 flag-of-requires c κs = search needs
 
-put-record-requires : tie.Need-put-record-requires Inv-loop μ-loop
-put-record-requires c κs = search needs
+word-of-requires : tie.Need-word-of-requires Inv-loop μ-loop
+word-of-requires c κs = search needs
+
+put-requires : tie.Need-put-requires Inv-loop μ-loop
+put-requires c κs = search needs
 
 cast-take-back : tie.Need-cast-take-back Inv-loop μ-loop
 cast-take-back c = search needs
@@ -48,27 +56,19 @@ loop-less : tie.Need-loop-less Inv-loop μ-loop
 loop-less c = search needs
 
 loop-again : tie.Need-loop-again Inv-loop μ-loop
-loop-again c = (
-  evict-one _ _ _ _ _ _ _ _ _ _ _ _ _ _ _ _ (c .before .before .before .before .before .before .before .before .before .before .before .before .before .before .before .before .before .before .before .before .before .before .before .before .before .before .before .before .before .before .loop .inv .0) (c .before .before .before .before .before .before .before .before .before .before .before .before .before .before .before .before .before .before .before .before .before .before .before .before .before .before .before .before .before .loop-test .taken) (c .before .before .before .before .before .before .before .before .before .before .before .before .before .before .before .before .before .before .before .before .before .before .before .before .before .before .before .before .if1 .taken) _ (c .before .before .before .before .before .before .before .before .before .before .before .before .before .before .before .before .before .before .before .before .before .before .before .before .record-at .ensures) _ _ (sym (c .before .before .before .before .before .before .before .before .before .before .before .before .before .before .before .before .before .before .before .before .before .before .before .is-assigned .ensures) ∙ c .before .before .before .before .before .before .before .before .before .before .before .before .before .before .before .before .before .before .before .before .before .before .if2 .taken) (c .before .before .before .before .before .before .before .before .before .before .before .before .before .before .before .before .before .before .before .before .before .flag-of .ensures) (c .before .before .before .before .before .before .before .before .before .before .reg-of .ensures) _ _ _ (c .before .before .before .before .before .before .take-back .ensures) _ (c .before .before .before .before .before .before .before .before .before .before .before .before .before .before .before .before .before .put-record .ensures),
-  c .before .before .before .before .before .before .take-back .kept .1 .1 .1 .1 .1 .1 .1 .1 .0 ∙ c .before .before .before .before .before .before .before .before .before .before .before .before .before .before .before .before .before .before .before .before .before .before .before .before .before .before .before .before .before .before .loop .inv .1,
-  c .before .before .before .before .before .before .take-back .kept .1 .1 .1 .1 .1 .1 .1 .1 .1 .0 ∙ c .before .before .before .before .before .before .before .before .before .before .before .before .before .before .before .before .before .before .before .before .before .before .before .before .before .before .before .before .before .before .loop .inv .2,
-  c .before .before .before .before .before .before .take-back .kept .1 .1 .1 .1 .1 .1 .1 .1 .1 .1 .0 ∙ c .before .before .before .before .before .before .before .before .before .before .before .before .before .before .before .before .before .before .before .before .before .before .before .before .before .before .before .before .before .before .loop .inv .3,
-  c .before .before .before .before .before .before .before .before .before .before .before .before .before .before .before .before .before .put-record .kept .0 ∙ c .before .before .before .before .before .before .before .before .before .before .before .before .before .before .before .before .before .before .before .before .before .before .before .before .before .before .before .before .before .before .loop .inv .4,
-  c .before .before .before .before .before .before .before .before .before .before .before .before .before .before .before .before .before .put-record .kept .1 .0 ∙ c .before .before .before .before .before .before .before .before .before .before .before .before .before .before .before .before .before .before .before .before .before .before .before .before .before .before .before .before .before .before .loop .inv .5,
-  c .before .before .before .before .before .before .before .before .before .before .before .before .before .before .before .before .before .put-record .kept .1 .1 .0 ∙ c .before .before .before .before .before .before .before .before .before .before .before .before .before .before .before .before .before .before .before .before .before .before .before .before .before .before .before .before .before .before .loop .inv .6,
-)
+loop-again c = (evict-one _ _ _ _ _ _ _ _ _ _ _ (c .before .before .before .before .before .before .before .before .before .before .before .before .before .before .before .before .before .before .before .before .before .before .before .before .loop .inv .0) (c .before .before .before .before .before .before .before .before .before .before .before .before .before .before .before .before .before .before .before .before .before .before .before .loop-test .taken) (c .before .before .before .before .before .before .before .before .before .before .before .before .before .before .before .before .before .before .before .before .before .before .if1 .taken) _ (c .before .before .before .before .before .before .before .before .before .before .before .before .before .before .before .before .before .before .before .record-of .ensures ∙ rw (c .before .before .before .before .before .before .before .before .before .before .before .before .before .before .before .before .before .before .before .before .at .ensures)) _ _ (sym (c .before .before .before .before .before .before .before .before .before .before .before .before .before .before .before .before .before .before .is-assigned .ensures) ∙ c .before .before .before .before .before .before .before .before .before .before .before .before .before .before .before .before .before .if2 .taken) (c .before .before .before .before .before .before .before .before .before .before .before .before .before .before .before .before .flag-of .ensures) (c .before .before .before .before .before .before .before .before .before .before .reg-of .ensures) _ _ _ (c .before .before .before .before .before .before .take-back .ensures) _ _ (c .before .before .before .before .before .before .before .before .before .before .before .before .before .before .word-of .ensures) (c .before .before .before .before .before .before .before .before .before .before .before .before .before .put .ensures), c .before .before .before .before .before .before .take-back .kept .1 .1 .1 .1 .1 .0 ∙ c .before .before .before .before .before .before .before .before .before .before .before .before .before .before .before .before .before .before .before .before .before .before .before .before .loop .inv .1, c .before .before .before .before .before .before .take-back .kept .1 .1 .1 .1 .1 .1 .0 ∙ c .before .before .before .before .before .before .before .before .before .before .before .before .before .before .before .before .before .before .before .before .before .before .before .before .loop .inv .2, c .before .before .before .before .before .before .take-back .kept .1 .1 .1 .1 .1 .1 .1 .0 ∙ c .before .before .before .before .before .before .before .before .before .before .before .before .before .before .before .before .before .before .before .before .before .before .before .before .loop .inv .3, c .before .before .before .before .before .before .before .before .before .before .before .before .before .put .kept .0 ∙ c .before .before .before .before .before .before .before .before .before .before .before .before .before .before .before .before .before .before .before .before .before .before .before .before .loop .inv .4)
 
 loop-less-2 : tie.Need-loop-less-2 Inv-loop μ-loop
 loop-less-2 c = search needs
 
 loop-again-2 : tie.Need-loop-again-2 Inv-loop μ-loop
-loop-again-2 c = (evict-idle _ _ _ _ _ _ _ _ _ _ _ _ _ _ _ _ (c .before .before .before .before .before .before .before .before .loop .inv .0) (c .before .before .before .before .before .before .before .loop-test .taken) (c .before .before .before .before .before .before .if1 .taken) _ (c .before .before .record-at .ensures) (sym (c .before .is-assigned .ensures) ∙ c .if2 .left), c .before .before .before .before .before .before .before .before .loop .inv .1, c .before .before .before .before .before .before .before .before .loop .inv .2, c .before .before .before .before .before .before .before .before .loop .inv .3, c .before .before .before .before .before .before .before .before .loop .inv .4, c .before .before .before .before .before .before .before .before .loop .inv .5, c .before .before .before .before .before .before .before .before .loop .inv .6)
+loop-again-2 c = (evict-idle _ _ _ _ _ _ _ _ _ _ _ (c .before .before .before .before .before .before .before .loop .inv .0) (c .before .before .before .before .before .before .loop-test .taken) (c .before .before .before .before .before .if1 .taken) _ (c .before .before .record-of .ensures ∙ rw (c .before .before .before .at .ensures)) (sym (c .before .is-assigned .ensures) ∙ c .if2 .left), c .before .before .before .before .before .before .before .loop .inv .1, c .before .before .before .before .before .before .before .loop .inv .2, c .before .before .before .before .before .before .before .loop .inv .3, c .before .before .before .before .before .before .before .loop .inv .4)
 
 loop-less-3 : tie.Need-loop-less-3 Inv-loop μ-loop
 loop-less-3 c = search needs
 
 loop-again-3 : tie.Need-loop-again-3 Inv-loop μ-loop
-loop-again-3 c = (evict-pass _ _ _ _ _ _ _ _ _ _ _ _ _ _ _ _ (c .before .before .loop .inv .0) (c .before .loop-test .taken) (c .if1 .left), c .before .before .loop .inv .1, c .before .before .loop .inv .2, c .before .before .loop .inv .3, c .before .before .loop .inv .4, c .before .before .loop .inv .5, c .before .before .loop .inv .6)
+loop-again-3 c = (evict-pass _ _ _ _ _ _ _ _ _ _ _ (c .before .before .loop .inv .0) (c .before .loop-test .taken) (c .if1 .left), c .before .before .loop .inv .1, c .before .before .loop .inv .2, c .before .before .loop .inv .3, c .before .before .loop .inv .4)
 
 same-length : tie.Need-same-length Inv-loop μ-loop
 same-length c = c .before .loop .inv .1
@@ -82,14 +82,8 @@ same-length-3 c = c .before .loop .inv .3
 same-length-4 : tie.Need-same-length-4 Inv-loop μ-loop
 same-length-4 c = c .before .loop .inv .4
 
-same-length-5 : tie.Need-same-length-5 Inv-loop μ-loop
-same-length-5 c = c .before .loop .inv .5
-
-same-length-6 : tie.Need-same-length-6 Inv-loop μ-loop
-same-length-6 c = c .before .loop .inv .6
-
 returns : tie.Need-returns Inv-loop μ-loop
-returns c = evict-end _ _ _ _ _ _ _ _ _ _ _ _ _ _ _ _ (c .before .loop .inv .0) (c .loop-test .left)
+returns c = evict-end _ _ _ _ _ _ _ _ _ _ _ (c .before .loop .inv .0) (c .loop-test .left)
 
 pub evict-all-spec : {M : Type 1} → statement M
 evict-all-spec =
@@ -100,10 +94,12 @@ evict-all-spec =
     loop-holds
     add-i
     array-read-if1
-    record-at-requires
+    at-requires
+    record-of-requires
     is-assigned-requires
     flag-of-requires
-    put-record-requires
+    word-of-requires
+    put-requires
     cast-take-back
     reg-of-requires
     take-back-requires
@@ -117,6 +113,4 @@ evict-all-spec =
     same-length-2
     same-length-3
     same-length-4
-    same-length-5
-    same-length-6
     returns)

@@ -1,16 +1,22 @@
 use borrow.Author.Needs.{needs}
+use mathlib.Core.Path.{_∙_}
+use mathlib.Core.List.{[]}
+use Rattle.job.specs.Layout.{slices, listsIn}
 use Rattle.context.proofs.CarryLaws.{taken}
 use Rattle.context.proofs.carry.take.Statement.{statement}
 use Rattle.context.proofs.carry.take.Tie as tie
 
-of32-requires : tie.Need-of32-requires
-of32-requires c κs = search needs
+froms-of-requires : tie.Need-froms-of-requires
+froms-of-requires c κs = search needs
 
-of32-requires-2 : tie.Need-of32-requires-2
-of32-requires-2 c κs = search needs
+tos-of-requires : tie.Need-tos-of-requires
+tos-of-requires c κs = search needs
 
 at-requires : tie.Need-at-requires
 at-requires c κs = search needs
+
+from-requires : tie.Need-from-requires
+from-requires c κs = search needs
 
 assign-requires : tie.Need-assign-requires
 assign-requires c κs = search needs
@@ -18,14 +24,17 @@ assign-requires c κs = search needs
 remove-requires : tie.Need-remove-requires
 remove-requires c κs = search needs
 
+from16-requires : tie.Need-from16-requires
+from16-requires c κs = search needs
+
 at16-requires : tie.Need-at16-requires
 at16-requires c κs = search needs
 
 cast-put8 : tie.Need-cast-put8
 cast-put8 c = search needs
 
-word-of-requires : tie.Need-word-of-requires
-word-of-requires c κs = search needs
+last-word-requires : tie.Need-last-word-requires
+last-word-requires c κs = search needs
 
 put8-requires : tie.Need-put8-requires
 put8-requires c κs = search needs
@@ -43,20 +52,22 @@ same-length-4 : tie.Need-same-length-4
 same-length-4 c = search needs
 
 returns : tie.Need-returns
-returns c = taken _ _ _ _ _ _ _ _ _ _ _ _ _ _ _ _ _ _ _ _ _ _ (c .before .before .before .before .before .before .before .before .before .before .before .before .before .before .before .before .before .before .before .of32 .ensures) (c .before .before .before .before .before .before .before .before .before .before .before .before .before .before .before .before .before .before .of322 .ensures) (c .before .before .before .before .before .before .before .before .before .before .before .before .before .before .before .at .ensures) (c .before .before .before .before .before .before .before .before .before .before .before .before .before .before .assign .ensures) (c .before .before .before .before .before .before .before .before .remove .ensures) (c .before .before .before .before .at16 .ensures) (c .before .before .before .word-of .ensures) (c .before .before .put8 .ensures)
+returns c = taken _ _ (listsIn (slices (c .before .before .before .before .before .before .before .before .before .before .before .before .before .before .before .before .before .before .before .before .before .before .before .before .before .before .before .before .before .args .j64 .now) (c .before .before .before .before .before .before .before .before .before .before .before .before .before .before .before .before .before .before .before .before .before .before .before .before .before .before .before .before .before .args .j32 .now) (c .before .before .before .before .before .before .before .before .before .before .before .before .before .before .before .before .before .before .before .before .before .before .before .before .before .before .before .before .before .args .j16 .now) [] [])) _ _ _ _ _ _ _ _ _ _ _ _ _ _ _ (c .before .before .before .before .before .before .before .before .before .before .before .before .before .before .before .before .before .before .before .before .before .froms-of .ensures) (c .before .before .before .before .before .before .before .before .before .before .before .before .before .before .before .before .before .before .before .before .tos-of .ensures) (c .before .before .before .before .before .before .before .before .before .before .before .before .before .before .before .before .before .before .before .at .ensures) (c .before .before .before .before .before .before .before .before .before .before .before .before .before .before .before .before .from .ensures) (c .before .before .before .before .before .before .before .before .before .before .before .before .before .before .before .assign .ensures) (c .before .before .before .before .before .before .before .before .before .remove .ensures) (c .before .before .before .before .before .at16 .ensures ∙ rw (c .before .before .before .before .before .before .from16 .ensures)) (c .before .before .before .last-word .ensures) (c .before .before .put8 .ensures)
 
 pub take-spec : {M : Type 1} → statement M
 take-spec =
     tie.close
     (tie.spec
-    of32-requires
-    of32-requires-2
+    froms-of-requires
+    tos-of-requires
     at-requires
+    from-requires
     assign-requires
     remove-requires
+    from16-requires
     at16-requires
     cast-put8
-    word-of-requires
+    last-word-requires
     put8-requires
     same-length
     same-length-2

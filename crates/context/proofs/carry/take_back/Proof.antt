@@ -1,25 +1,24 @@
 use borrow.Author.Needs.{needs}
+use mathlib.Core.List.{[]}
+use Rattle.job.specs.Layout.{slices, listsIn}
 use Rattle.context.proofs.CarryLaws.{taken-back}
 use Rattle.context.proofs.carry.take_back.Statement.{statement}
 use Rattle.context.proofs.carry.take_back.Tie as tie
 
-of32-requires : tie.Need-of32-requires
-of32-requires c κs = search needs
+tos-of-requires : tie.Need-tos-of-requires
+tos-of-requires c κs = search needs
 
 at-requires : tie.Need-at-requires
 at-requires c κs = search needs
 
+from-requires : tie.Need-from-requires
+from-requires c κs = search needs
+
 evict-requires : tie.Need-evict-requires
 evict-requires c κs = search needs
 
-has-hints-requires : tie.Need-has-hints-requires
-has-hints-requires c κs = search needs
-
-at32-requires : tie.Need-at32-requires
-at32-requires c κs = search needs
-
-enqueue-requires : tie.Need-enqueue-requires
-enqueue-requires c κs = search needs
+queue-at-requires : tie.Need-queue-at-requires
+queue-at-requires c κs = search needs
 
 same-length : tie.Need-same-length
 same-length c = search needs
@@ -31,18 +30,17 @@ same-length-3 : tie.Need-same-length-3
 same-length-3 c = search needs
 
 returns : tie.Need-returns
-returns c = taken-back _ _ _ _ _ _ _ _ _ _ _ _ _ _ _ _ _ _ _ (c .before .before .before .before .before .before .before .before .before .before .before .before .before .before .of32 .ensures) (c .before .before .before .before .before .before .before .before .before .before .before .at .ensures) (c .before .before .before .before .before .before .before .before .before .before .evict .ensures) (c .before .before .before .before .has-hints .ensures) (c .before .before .before .at32 .ensures) (c .before .before .enqueue .ensures)
+returns c = taken-back _ _ (listsIn (slices (c .before .before .before .before .before .before .before .before .before .before .before .before .before .before .before .before .before .before .before .before .args .j64 .now) (c .before .before .before .before .before .before .before .before .before .before .before .before .before .before .before .before .before .before .before .before .args .j32 .now) (c .before .before .before .before .before .before .before .before .before .before .before .before .before .before .before .before .before .before .before .before .args .j16 .now) [] [])) _ _ _ _ _ _ _ _ _ _ (c .before .before .before .before .before .before .before .before .before .before .before .before .before .tos-of .ensures) (c .before .before .before .before .before .before .before .before .before .before .before .before .at .ensures) (c .before .before .before .before .before .before .before .before .before .from .ensures) (c .before .before .before .before .before .before .before .before .evict .ensures) (c .before .before .queue-at .ensures)
 
 pub take-back-spec : {M : Type 1} → statement M
 take-back-spec =
     tie.close
     (tie.spec
-    of32-requires
+    tos-of-requires
     at-requires
+    from-requires
     evict-requires
-    has-hints-requires
-    at32-requires
-    enqueue-requires
+    queue-at-requires
     same-length
     same-length-2
     same-length-3

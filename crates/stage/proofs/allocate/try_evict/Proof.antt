@@ -7,6 +7,7 @@ use mathlib.Core.List.{List}
 use lib.ListN.{length}
 use Rattle.matrix.specs.Walk.{lent}
 use Rattle.allocator.specs.declared.CandidateReg.{CandidateReg}
+use Rattle.records.specs.Words.{heldIn}
 use Rattle.order.specs.OrderWalk.{Computed, offersFrom}
 use Rattle.stage.specs.AllocateWalk.{noBest, evictIn}
 use Rattle.stage.proofs.AllocateLaws.{tried-is, evict-end, evict-skip, evict-past, evict-better, evict-not}
@@ -14,10 +15,10 @@ use Rattle.stage.proofs.allocate.try_evict.Statement.{statement}
 use Rattle.stage.proofs.allocate.try_evict.Tie as tie
 
 abbrev Inv-loop : tie.InvT-loop
-Inv-loop order regs weights class maps records spills flag own ends rests uses froms tos values best₀ i₀ best i = (i ≤ 129) × ((hs : List CandidateReg) → Computed order regs weights hs → length hs + length class ≤ 129 → evictIn (lent ends rests uses froms tos values) maps records spills flag own best (offersFrom hs class i) ≡ evictIn (lent ends rests uses froms tos values) maps records spills flag own noBest (offersFrom hs class 0))
+Inv-loop order regs weights class maps words spills flag own ends rests uses froms tos values best₀ i₀ best i = (i ≤ 129) × ((hs : List CandidateReg) → Computed order regs weights hs → length hs + length class ≤ 129 → evictIn (lent ends rests uses froms tos values) maps (heldIn words) spills flag own best (offersFrom hs class i) ≡ evictIn (lent ends rests uses froms tos values) maps (heldIn words) spills flag own noBest (offersFrom hs class 0))
 
 abbrev μ-loop : tie.MeasureT-loop
-μ-loop order regs weights class maps records spills flag own ends rests uses froms tos values best₀ i₀ best i = 129 - i
+μ-loop order regs weights class maps words spills flag own ends rests uses froms tos values best₀ i₀ best i = 129 - i
 
 none-yet-requires : tie.Need-none-yet-requires Inv-loop μ-loop
 none-yet-requires c κs = search needs
@@ -58,23 +59,26 @@ at-requires c κs = search needs
 by-cost-requires : tie.Need-by-cost-requires Inv-loop μ-loop
 by-cost-requires c κs = search needs
 
-try-on-requires : tie.Need-try-on-requires Inv-loop μ-loop
-try-on-requires c κs = search needs
+try-reports-requires : tie.Need-try-reports-requires Inv-loop μ-loop
+try-reports-requires c κs = search needs
 
 is-better-requires : tie.Need-is-better-requires Inv-loop μ-loop
 is-better-requires c κs = search needs
 
+found-requires : tie.Need-found-requires Inv-loop μ-loop
+found-requires c κs = search needs
+
 loop-less-2 : tie.Need-loop-less-2 Inv-loop μ-loop
-loop-less-2 c = search needs
+loop-less-2 c = omega (arith, c .before .before .before .before .before .before .before .before .before .before .before .before .loop-test .taken)
 
 loop-again-2 : tie.Need-loop-again-2 Inv-loop μ-loop
-loop-again-2 c = (omega (arith, c .before .before .before .before .before .before .before .before .before .before .before .before .before .loop-test .taken), λ hs k b. evict-better _ _ _ _ _ _ hs _ (c .before .before .before .before .before .before .before .before .before .before .before .before .before .before .loop .i) (c .before .before .before .before .before .before .before .before .before .before .before .before .before .before .loop .best) _ (sym (c .before .before .before .before .before .before .before .before .before .before .before .before .candidate .ensures hs k) ∙ c .before .before .before .before .before .before .before .before .before .before .c .given .1) _ (tried-is _ _ _ _ _ _ _ _ _ _ (c .before .before .before .before .before .by-cost .ensures) (c .before .before .before .before .before .before .before .before .wide .ensures) (c .before .before .before .before .before .before .before .at .ensures) (c .before .before .before .before .try-on .ensures)) (sym (c .before .before .before .is-better .ensures) ∙ c .before .before .if1 .taken) ∙ c .before .before .before .before .before .before .before .before .before .before .before .before .before .before .loop .inv .1 hs k b)
+loop-again-2 c = (omega (arith, c .before .before .before .before .before .before .before .before .before .before .before .before .loop-test .taken), λ hs k b. rw (c .found .ensures) (evict-better _ _ _ _ _ _ hs _ (c .before .before .before .before .before .before .before .before .before .before .before .before .before .loop .i) (c .before .before .before .before .before .before .before .before .before .before .before .before .before .loop .best) _ (sym (c .before .before .before .before .before .before .before .before .before .before .before .candidate .ensures hs k) ∙ c .before .before .before .before .before .before .before .before .before .c .given .1) _ (tried-is _ _ _ _ _ _ _ _ _ _ (c .before .before .before .before .by-cost .ensures) (c .before .before .before .before .before .before .before .wide .ensures) (c .before .before .before .before .before .before .at .ensures) (c .before .before .before .try-reports .ensures)) (sym (c .before .before .is-better .ensures) ∙ c .before .if1 .taken) ∙ c .before .before .before .before .before .before .before .before .before .before .before .before .before .loop .inv .1 hs k b))
 
 loop-less-3 : tie.Need-loop-less-3 Inv-loop μ-loop
 loop-less-3 c = search needs
 
 loop-again-3 : tie.Need-loop-again-3 Inv-loop μ-loop
-loop-again-3 c = (omega (arith, c .before .before .before .before .before .before .before .before .before .before .before .loop-test .taken), λ hs k b. evict-not _ _ _ _ _ _ hs _ (c .before .before .before .before .before .before .before .before .before .before .before .before .loop .i) (c .before .before .before .before .before .before .before .before .before .before .before .before .loop .best) _ (sym (c .before .before .before .before .before .before .before .before .before .before .candidate .ensures hs k) ∙ c .before .before .before .before .before .before .before .before .c .given .1) _ (tried-is _ _ _ _ _ _ _ _ _ _ (c .before .before .before .by-cost .ensures) (c .before .before .before .before .before .before .wide .ensures) (c .before .before .before .before .before .at .ensures) (c .before .before .try-on .ensures)) (sym (c .before .is-better .ensures) ∙ c .if1 .left) ∙ c .before .before .before .before .before .before .before .before .before .before .before .before .loop .inv .1 hs k b)
+loop-again-3 c = (omega (arith, c .before .before .before .before .before .before .before .before .before .before .before .loop-test .taken), λ hs k b. evict-not _ _ _ _ _ _ hs _ (c .before .before .before .before .before .before .before .before .before .before .before .before .loop .i) (c .before .before .before .before .before .before .before .before .before .before .before .before .loop .best) _ (sym (c .before .before .before .before .before .before .before .before .before .before .candidate .ensures hs k) ∙ c .before .before .before .before .before .before .before .before .c .given .1) _ (tried-is _ _ _ _ _ _ _ _ _ _ (c .before .before .before .by-cost .ensures) (c .before .before .before .before .before .before .wide .ensures) (c .before .before .before .before .before .at .ensures) (c .before .before .try-reports .ensures)) (sym (c .before .is-better .ensures) ∙ c .if1 .left) ∙ c .before .before .before .before .before .before .before .before .before .before .before .before .loop .inv .1 hs k b)
 
 returns-2 : tie.Need-returns-2 Inv-loop μ-loop
 returns-2 c = λ hs k b. evict-past _ _ _ _ _ _ hs _ (c .before .loop .i) _ (omega (arith, c .loop-test .left)) ∙ c .before .loop .inv .1 hs k b
@@ -98,8 +102,9 @@ try-evict-spec =
     wide-requires
     at-requires
     by-cost-requires
-    try-on-requires
+    try-reports-requires
     is-better-requires
+    found-requires
     loop-less-2
     loop-again-2
     loop-less-3
