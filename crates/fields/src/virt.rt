@@ -118,9 +118,7 @@ fn segments(
     let mut i = 0;
     while i < count {
         match segment(s, at, past) {
-            SegmentRead::Refused(n) => {
-                return Next::Refused(n);
-            }
+            SegmentRead::Refused(n) => return Next::Refused(n),
             SegmentRead::Is(seg, next) => {
                 put32(j32, g + i, seg.from);
                 put32(j32, TOS + g + i, seg.to);
@@ -229,9 +227,7 @@ fn hints(
     let mut i = 0;
     while i < count {
         match hint(s, at, regs) {
-            HintRead::Refused(n) => {
-                return Next::Refused(n);
-            }
+            HintRead::Refused(n) => return Next::Refused(n),
             HintRead::Is(x, next) => {
                 put8(j8, HINT_REGS + h + i, x.reg);
                 put_float(jf, HINT_WEIGHTS + h + i, x.weight);
@@ -318,8 +314,7 @@ fn no_class(m: u64, classes: u64) -> bool
 }
 
 // What stands before the hints of the virtual register `n`.
-fn virt_fields(s: &[u8], at: usize, classes: u64, n: u16) -> FieldsRead
-    requires { ⌜ classes ≤ 255 ⌝ }
+fn virt_fields(s: &[u8], at: usize, classes: u8, n: u16) -> FieldsRead
     ensures { λ r. ⌜ fieldsView (now (s .entry)) r ≡ virtRegFields classes n (drop at (now (s .entry))) ⌝ }
 {
     let Read::Value(m, at1) = byte(s, at) else {
@@ -331,10 +326,10 @@ fn virt_fields(s: &[u8], at: usize, classes: u64, n: u16) -> FieldsRead
     if m / 32 % 2 != 1 {
         return FieldsRead::Refused(5);
     }
-    if no_class(m, classes) {
+    if no_class(m, classes as u64) {
         return FieldsRead::Refused(8);
     }
-    match class_field(s, at1, m, classes) {
+    match class_field(s, at1, m, classes as u64) {
         Number::Refused(k) => FieldsRead::Refused(k),
         Number::Is(c, at2) => match set_field(s, at2, m, n) {
             Number::Refused(k) => FieldsRead::Refused(k),
@@ -364,8 +359,8 @@ fn virt_fields(s: &[u8], at: usize, classes: u64, n: u16) -> FieldsRead
 fn virt_reg(
     s: &[u8],
     at: usize,
-    regs: u64,
-    classes: u64,
+    regs: u8,
+    classes: u8,
     n: u16,
     h: u64,
     g: u64,
@@ -374,12 +369,12 @@ fn virt_reg(
     j8: &mut [u8],
     jf: &mut [f32],
 ) -> VirtRead
-    requires { ⌜ (classes ≤ 255) × (h ≤ 1024) × (g ≤ 512) ⌝ }
+    requires { ⌜ (h ≤ 1024) × (g ≤ 512) ⌝ }
     ensures { λ r. ⌜ VirtOut (now (s .entry)) (virtRegAt regs classes n h g (drop at (now (s .entry)))) h g r (HintsAt h (now (j8 .entry)) (now (jf .entry)) (now (j8 .exit)) (now (jf .exit))) (SegmentsAt g (now (j32 .entry)) (now (j16 .entry)) (now (j32 .exit)) (now (j16 .exit))) ⌝ }
 {
     match virt_fields(s, at, classes, n) {
         FieldsRead::Refused(k) => VirtRead::Refused(k),
-        FieldsRead::Is(f, at1) => match hint_table(s, at1, f.map, regs, h, j8, jf) {
+        FieldsRead::Is(f, at1) => match hint_table(s, at1, f.map, regs as u64, h, j8, jf) {
             Number::Refused(k) => VirtRead::Refused(k),
             Number::Is(hn, at2) => match segment_table(s, at2, g, j32, j16) {
                 Number::Refused(k) => VirtRead::Refused(k),
@@ -427,22 +422,8 @@ fn virt_regs(
     let mut g: u64 = 0;
     let mut i: usize = 0;
     while i < count as usize {
-        match virt_reg(
-            s,
-            at,
-            regs as u64,
-            classes as u64,
-            i as u16,
-            h,
-            g,
-            j32,
-            j16,
-            j8,
-            jf,
-        ) {
-            VirtRead::Refused(n) => {
-                return VirtsRead::Refused(n);
-            }
+        match virt_reg(s, at, regs, classes, i as u16, h, g, j32, j16, j8, jf) {
+            VirtRead::Refused(n) => return VirtsRead::Refused(n),
             VirtRead::Is(f, hn, gn, next) => {
                 put_fields(f, i, j32, j16, j8, jf);
                 h = h + hn;

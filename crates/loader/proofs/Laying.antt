@@ -100,7 +100,7 @@ or-rest : (a b : Bool) → (a || b) ≡ false → b ≡ false
 or-rest false b e = e
 or-rest true b e = absurd (let z : true ≡ false = e in let y : _≡_ {A = ℕ} 0 1 = cc in omega arith)
 
-pub long-enough : (n : ℕ) (ns : List ℕ) (k : ℕ) (ks : List ℕ) → shortBuffer (n ∷ ns) (k ∷ ks) ≡ false → (n ≤ k) × (shortBuffer ns ks ≡ false)
+long-enough : (n : ℕ) (ns : List ℕ) (k : ℕ) (ks : List ℕ) → shortBuffer (n ∷ ns) (k ∷ ks) ≡ false → (n ≤ k) × (shortBuffer ns ks ≡ false)
 unfolding shortBuffer
 long-enough n ns k ks e = (ltb-false k n (or-first (ltb k n) (shortBuffer ns ks) e), or-rest (ltb k n) (shortBuffer ns ks) e)
 

@@ -2,7 +2,7 @@
 use Prim.Native.Nat.{ℕ, _+_, _-_, _≤_, _<_}
 use native.Mathlib.Omega.{arith}
 use mathlib.Core.Path.{_≡_, refl, ap, sym, subst, _∙_}
-use mathlib.Core.List.{List, _∷_, _++_, append-nil}
+use mathlib.Core.List.{List, _++_, append-nil}
 use mathlib.Core.Bool.{Bool, true, false, not}
 use lib.ListN.{length, take, drop, length-drop, drop-of-length-le}
 use lib.Seq.{drop-drop}
@@ -23,10 +23,10 @@ use Rattle.placing.proofs.Loaded.{In}
 use Rattle.whole_fields.specs.declared.TableSizes.{TableSizes}
 use Rattle.reader.specs.Read.{FixedAt}
 use Rattle.whole_fields.specs.Whole.{SizesOf}
-use Rattle.loader.specs.Loading.{Lent, lent, sizesOf, testedJob, Stores, reservingAll, later, LoadDone}
+use Rattle.loader.specs.Loading.{Lent, lent, sizesOf, Sized, testedJob, Stores, reservingAll, later, LoadDone}
 use Rattle.loader.specs.declared.load.JobLoaded.the-variants.{Is, Refused}
 use Rattle.loader.proofs.Reserves.{reserved-job}
-use Rattle.loader.proofs.Laying.{long-enough, room, front-kept, all-later}
+use Rattle.loader.proofs.Laying.{room, front-kept, all-later}
 
 -- ---- what passed the tests was read
 
@@ -55,19 +55,11 @@ module _ (s : List ℕ) (b : Lent) where
   loaded-done : (b′ : Lent) (j : Job) {h : JobHeader} → loadWith loadLimits (sizesOf b) s ≡ loaded j → h ≡ headerOf j → b′ ≡ later j b → LoadDone s b b′ (Is h)
   loaded-done b′ j e d q = record { parts = rw e (ap Is d, q) }
 
-  tested-loads : shortBuffer loadLimits (sizesOf b) ≡ false → length s ≤ 32_768 → loadWith loadLimits (sizesOf b) s ≡ asLoaded (testedJob s)
-  unfolding loadWith wholeJob testedJob
-  tested-loads e h = rw (e, le-ltb 32_768 (length s) h)
-
 -- the rest of a slice, put back
 rest-put : (xs ys : List ℕ) → putMid 64 (length xs - 64) xs ys ≡ take 64 xs ++ ys
 rest-put xs ys =
     ap (λ (l : List ℕ). take 64 xs ++ (ys ++ l)) (drop-drop (length xs - 64) 64 xs ∙ drop-of-length-le xs {i = 64 + (length xs - 64)} (omega arith))
     ∙ ap (λ (l : List ℕ). take 64 xs ++ l) (append-nil ys)
-
--- there is room for the registers' maps
-pub has-uses : (n : ℕ) (ns : List ℕ) {r : Bool} → r ≡ shortBuffer loadLimits (n ∷ ns) → r ≡ false → 64 ≤ n
-has-uses n ns q e = omega (arith, long-enough 576 _ n ns (sym q ∙ e) .0)
 
 module _ (s : List ℕ) (b : Lent) {r : Bool} (q : r ≡ shortBuffer loadLimits (sizesOf b)) where
   pub short-done : r ≡ true → LoadDone s b b (Refused 15)
@@ -78,14 +70,21 @@ module _ (s : List ℕ) (b : Lent) {r : Bool} (q : r ≡ shortBuffer loadLimits 
   unfolding loadWith wholeJob
   long-done e h = refused-done s b (rw (sym q ∙ e, lt-ltb 32_768 (length s) h))
 
-  pub tests-done : r ≡ false → length s ≤ 32_768 → {n : ℕ} → testedJob s ≡ refused n → LoadDone s b b (Refused n)
-  tests-done e h f = refused-done s b (tested-loads s b (sym q ∙ e) h ∙ ap asLoaded f)
+module _ (s : List ℕ) (b : Lent) (sized : Sized s b) where
+  -- there is room for the registers' maps
+  pub has-uses : 64 ≤ length (b .job .j64)
+  has-uses = omega (arith, room b (sized .sizes) .j64)
+
+  tested-loads : loadWith loadLimits (sizesOf b) s ≡ asLoaded (testedJob s)
+  unfolding loadWith wholeJob testedJob
+  tested-loads = rw (sized .sizes, le-ltb 32_768 (length s) (sized .bytes))
+
+  pub tests-done : {n : ℕ} → testedJob s ≡ refused n → LoadDone s b b (Refused n)
+  tests-done f = refused-done s b (tested-loads ∙ ap asLoaded f)
 
   kept-job :
       (B : JobSlices) (W ends rests : List ℕ) (j : Job) (t : List ℕ) {h : JobHeader} (z : TableSizes) {n f g u n′ f′ g′ u′ : List ℕ}
       → Bytes s
-      → r ≡ false
-      → length s ≤ 32_768
       → testedJob s ≡ parsed j t
       → h ≡ headerOf j
       → SizesOf z j
@@ -94,10 +93,10 @@ module _ (s : List ℕ) (b : Lent) {r : Bool} (q : r ≡ shortBuffer loadLimits 
       → Stores s (b .job) B
       → lain ends rests W ≡ reservingAll n′ f′ g′ u′ (z .fixed) (cleared (lain (b .ends) (b .rests) (drop 64 (B .j64))))
       → LoadDone s b (lent (record { j64 = take 64 (B .j64) ++ W; j32 = B .j32; j16 = B .j16; j8 = B .j8; jf = B .jf }) ends rests) (Is h)
-  kept-job B W ends rests j t z bytes x l e d y fx roomy st re =
-      let a : loadWith loadLimits (sizesOf b) s ≡ loaded j = tested-loads s b (sym q ∙ x) l ∙ ap asLoaded e in
+  kept-job B W ends rests j t z bytes e d y fx roomy st re =
+      let a : loadWith loadLimits (sizesOf b) s ≡ loaded j = tested-loads ∙ ap asLoaded e in
       let p = loads-premises loadLimits (sizesOf b) s j bytes a in
-      let m = room b (sym q ∙ x) in
+      let m = room b (sized .sizes) in
       let k = st .stored j t (fields-read j t s e) in
       let w = front-kept j p b m (y .fewClassRegs) k in
       let v : maxFixed ≤ length (drop 64 (B .j64)) = rw (w .1) (simp length-drop (omega (arith, m .j64))) in
@@ -110,8 +109,6 @@ module _ (s : List ℕ) (b : Lent) {r : Bool} (q : r ≡ shortBuffer loadLimits 
   pub job-done :
       (B : JobSlices) (W ends rests : List ℕ) (j : Job) (t : List ℕ) {h : JobHeader} (z : TableSizes) {n f g u n′ f′ g′ u′ : List ℕ}
       → Bytes s
-      → r ≡ false
-      → length s ≤ 32_768
       → testedJob s ≡ parsed j t
       → h ≡ headerOf j
       → SizesOf z j
@@ -120,7 +117,7 @@ module _ (s : List ℕ) (b : Lent) {r : Bool} (q : r ≡ shortBuffer loadLimits 
       → Stores s (b .job) B
       → lain ends rests W ≡ reservingAll n′ f′ g′ u′ (z .fixed) (cleared (lain (b .ends) (b .rests) (midOf 64 (length (B .j64) - 64) (B .j64))))
       → LoadDone s b (lent (record { j64 = putMid 64 (length (B .j64) - 64) (B .j64) W; j32 = B .j32; j16 = B .j16; j8 = B .j8; jf = B .jf }) ends rests) (Is h)
-  job-done B W ends rests j t {h} z {n} {f} {g} {u} {n′} {f′} {g′} {u′} bytes x l e d y fx roomy st re =
+  job-done B W ends rests j t {h} z {n} {f} {g} {u} {n′} {f′} {g′} {u′} bytes e d y fx roomy st re =
       let w = rest-put (B .j64) W in
       subst (λ (v : List ℕ). LoadDone s b (lent (record { j64 = v; j32 = B .j32; j16 = B .j16; j8 = B .j8; jf = B .jf }) ends rests) (Is h)) (sym w)
-      (kept-job B W ends rests j t z bytes x l e d y fx roomy st (re ∙ ap (λ (v : List ℕ). reservingAll n′ f′ g′ u′ (z .fixed) (cleared (lain (b .ends) (b .rests) v))) (all-from 64 (B .j64))))
+      (kept-job B W ends rests j t z bytes e d y fx roomy st (re ∙ ap (λ (v : List ℕ). reservingAll n′ f′ g′ u′ (z .fixed) (cleared (lain (b .ends) (b .rests) v))) (all-from 64 (B .j64))))

@@ -3,12 +3,12 @@ use Prim.Native.Nat.{ℕ, zero, suc, _≤_, _<_}
 use native.Mathlib.Omega.{arith}
 use mathlib.Core.Path.{_≡_, refl, ap, sym, _∙_}
 use mathlib.Core.List.{List, [], _∷_, map}
-use mathlib.Core.Bool.{Bool, true, false, _||_}
+use mathlib.Core.Bool.{Bool, true, false}
 use lib.ListN.{length, drop, length-map}
 use lib.Seq.{drop-cons, sets, length-sets}
 use Rattle.lent.specs.Parts.{Begins}
 use Rattle.lent.proofs.Laws.{begins-stored, begins-behind}
-use Rattle.reg_matrix.specs.Lists.{any, anyPair, count, isNil}
+use Rattle.reg_matrix.specs.Lists.{isNil}
 use Rattle.reg_matrix.specs.declared.Entry.{Entry}
 use Rattle.reg_matrix.specs.declared.ValueSegment.{ValueSegment}
 use Rattle.job.specs.declared.Hint.{Hint}
@@ -25,8 +25,8 @@ use Rattle.reader.specs.Read.{FixedAt, allMembers, hintsOfAll, segmentsOfAll}
 use Rattle.fields.specs.Virt.{in32, in16, in8, hintEnds, segmentEnds}
 use Rattle.whole_fields.specs.Whole.{SizesOf, JobAt, JobOut}
 use Rattle.reader.proofs.Tables.{segmentsIn-length}
-use Rattle.job_tests.specs.Tests.{equalAt, memberTwice, classesDiffer, crossesAt, wholeNumber}
-use Rattle.loader.specs.Loading.{testedJob, TestedOut}
+use Rattle.job_tests.specs.Tests.{wholeNumber}
+use Rattle.loader.specs.Loading.{testedJob, jobRefusal, TestedOut}
 use Rattle.loader.specs.declared.load.JobTested.the-variants.{Is as IsTested, Refused as NotTested}
 use Rattle.job_tests.proofs.WholeTests.{twin-is, mixed-is, cut-is}
 
@@ -197,7 +197,8 @@ numbers-are :
     → Asked j B
     → FixedAt n f t u n′ f′ t′ u′ (j .fixed)
     → (512 ≤ length f) × (512 ≤ length t) × (512 ≤ length u)
-    → wholeNumber (anyPair (equalAt (B .j64)) (count 0 (h .regs)) || any (memberTwice (B .j16) (B .j8)) (count 0 (h .classes))) (anyPair (classesDiffer (drop 1024 (B .j8)) (drop 17 (B .j16))) (count 0 (h .«virt_regs»))) (any (crossesAt (B .j32) (drop 512 (B .j32)) (drop 529 (B .j16)) f′ t′ u′ (y .fixed)) (count 0 (y .segments))) ≡ wholeNumber (twin j) (mixedSet j) (cutUse j)
+    → jobRefusal (B .j64) (B .j32) (B .j16) (B .j8) f′ t′ u′ h y ≡ wholeNumber (twin j) (mixedSet j) (cutUse j)
+unfolding jobRefusal
 numbers-are j h y B good e z a es d =
     let fe = good .few-fixed in
     rw (← regs-many j e, ← classes-many j e, ← virts-many j e, ← z .fixed, ← z .segments)
@@ -218,7 +219,7 @@ module _ (s : List ℕ) (bytes : Bytes s) {h : JobHeader} {y : TableSizes} {at x
     (room : Roomy B)
     (fixed : (512 ≤ length f) × (512 ≤ length t) × (512 ≤ length u))
     (all : length s ≤ at)
-    (is : x ≡ wholeNumber (anyPair (equalAt (B′ .j64)) (count 0 (h .regs)) || any (memberTwice (B′ .j16) (B′ .j8)) (count 0 (h .classes))) (anyPair (classesDiffer (drop 1024 (B′ .j8)) (drop 17 (B′ .j16))) (count 0 (h .«virt_regs»))) (any (crossesAt (B′ .j32) (drop 512 (B′ .j32)) (drop 529 (B′ .j16)) f′ t′ u′ (y .fixed)) (count 0 (y .segments))))
+    (is : x ≡ jobRefusal (B′ .j64) (B′ .j32) (B′ .j16) (B′ .j8) f′ t′ u′ h y)
   where
     number : wholeNumber (twin (out .parts .0)) (mixedSet (out .parts .0)) (cutUse (out .parts .0)) ≡ x
     number =

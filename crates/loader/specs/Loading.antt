@@ -1,11 +1,12 @@
 -- Loading, in the shape of the code: what is lent, what the two readings of a job promise, and what loading leaves. Assumes nothing.
-use Prim.Native.Nat.{ℕ}
+use Prim.Native.Nat.{ℕ, _≤_}
 use mathlib.Core.Path.{_≡_}
 use mathlib.Core.List.{List, [], _∷_, _++_}
-use mathlib.Core.Bool.{not}
+use mathlib.Core.Bool.{false, not, _||_}
 use lib.ListN.{length, drop, getD}
 use Rattle.lent.specs.Parts.{filled}
-use Rattle.reg_matrix.specs.Lists.{foldl, count, isNil}
+use Rattle.reg_matrix.specs.Lists.{foldl, any, anyPair, count, isNil}
+use Rattle.reg_matrix.specs.Refusals.{shortBuffer}
 use Rattle.reg_matrix.specs.Table.{freshTable}
 use Rattle.reg_matrix.specs.Layout.{maxEntries, endWords, restWords}
 use Rattle.reg_matrix.specs.declared.Entry.{Entry}
@@ -13,10 +14,11 @@ use Rattle.job.specs.declared.JobHeader.{JobHeader}
 use Rattle.job.specs.Model.{Job, zeroWeight}
 use Rattle.job.specs.Parser.{Parser, Parsed, refused, parsed, _>>=_, _>>_, done, refuse, rest}
 use Rattle.job.specs.Load.{jobFields, twin, mixedSet, cutUse, Loaded, notLoaded, loaded, loadWith}
-use Rattle.job.specs.Layout.{JobSlices, jobSlices, loadLimits, headerOf}
+use Rattle.job.specs.Layout.{JobSlices, slices, jobSlices, listsIn, loadLimits, headerOf}
 use Rattle.entries.specs.Reserving.{Lain, reserving}
 use Rattle.whole_fields.specs.declared.TableSizes.{TableSizes}
 use Rattle.whole_fields.specs.Whole.{JobAt, SizesOf}
+use Rattle.job_tests.specs.Tests.{equalAt, memberTwice, classesDiffer, crossesAt, wholeNumber}
 use Rattle.loader.specs.declared.load.JobTested.{JobTested}
 use Rattle.loader.specs.declared.load.JobTested.the-variants.{Is as IsTested, Refused as NotTested}
 use Rattle.loader.specs.declared.load.JobLoaded.{JobLoaded}
@@ -36,6 +38,11 @@ abbrev pub sizesOf : Lent → List ℕ
 sizesOf b =
     length (b .job .j64) ∷ length (b .job .j32) ∷ length (b .job .j16) ∷ length (b .job .j8) ∷ length (b .job .jf) ∷ length (b .ends) ∷ length (b .rests) ∷ []
 
+-- the sizes lent and the job's length pass their tests
+pub record Sized (s : List ℕ) (b : Lent) : Type 0 where
+  pub sizes : shortBuffer loadLimits (sizesOf b) ≡ false
+  pub bytes : length s ≤ 32_768
+
 -- ---- the first reading
 
 -- what is tested after the sizes lent and the job's length
@@ -48,6 +55,15 @@ testedJob = do
   refuse 11 (mixedSet j)
   refuse 12 (cutUse j)
   done j
+
+-- the number of the first of the tests 10, 11 and 12 that refuses the job in these slices, or 0. Its fixed reservations stand in slices of their own
+unfoldable pub jobRefusal : (j64 j32 j16 j8 starts stops uses : List ℕ) → JobHeader → TableSizes → ℕ
+jobRefusal j64 j32 j16 j8 starts stops uses h z =
+    let b = listsIn (slices j64 j32 j16 j8 []) in
+    wholeNumber
+    (anyPair (equalAt (b .regs)) (count 0 (h .regs)) || any (memberTwice (b .classStarts) (b .classRegs)) (count 0 (h .classes)))
+    (anyPair (classesDiffer (b .classes) (b .valueSets)) (count 0 (h .«virt_regs»)))
+    (any (crossesAt (b .froms) (b .tos) (b .values) starts stops uses (z .fixed)) (count 0 (z .segments)))
 
 abbrev TestedParts : Parsed Job → JobTested → (List Entry → Type 0) → Type 0
 TestedParts p (NotTested n) fixed = p ≡ refused n

@@ -1,10 +1,11 @@
 // Loading a job: from any bytes to what a job holds, in lent numbers, or to the number of one refusal. The job is read twice: first into local
 // numbers, so that a refusal leaves what is lent as it was, and then into the lent ones.
+ghost use mathlib.Core.Path.{_≡_};
 ghost use Prim.Native.Nat.{_≤_};
 ghost use lib.ListN.{length};
 ghost use Rattle.job.specs.Layout.{slices};
 ghost use Rattle.reader.specs.Read.{FixedAt};
-ghost use Rattle.loader.specs.Loading.{testedJob, TestedOut, Stores, lent, LoadDone};
+ghost use Rattle.loader.specs.Loading.{jobRefusal, testedJob, TestedOut, Stores, lent, Sized, LoadDone};
 use crate::buffers::clear_job;
 use crate::buffers::is_short;
 use crate::reserve::reserve_all;
@@ -32,6 +33,40 @@ pub enum JobTested {
 pub enum JobLoaded {
     Is(JobHeader),
     Refused(u8),
+}
+
+// The number of the first of the tests 10, 11 and 12 that refuses the job in these slices, or 0. Its fixed reservations stand in slices of their own.
+fn job_refusal(
+    j64: &[u64],
+    j32: &[u32],
+    j16: &[u16],
+    j8: &[u8],
+    starts: &[u32],
+    stops: &[u32],
+    uses: &[u32],
+    h: JobHeader,
+    z: TableSizes,
+) -> u8
+    ensures { λ r. ⌜ r ≡ jobRefusal (now (j64 .entry)) (now (j32 .entry)) (now (j16 .entry)) (now (j8 .entry)) (now (starts .entry)) (now (stops .entry)) (now (uses .entry)) h z ⌝ }
+{
+    whole_refusal(
+        j64,
+        j16,
+        j8,
+        from8(j8, CLASSES),
+        from16(j16, SETS),
+        j32,
+        from32(j32, TOS),
+        from16(j16, VALUES),
+        starts,
+        stops,
+        uses,
+        h.regs,
+        h.classes,
+        h.virt_regs,
+        z.segments,
+        z.fixed,
+    )
 }
 
 // Reads the job into local numbers and tests the whole. The fixed reservations stand in the four slices then. Of the job's slices there is only as
@@ -68,28 +103,10 @@ fn tested(
             if at < s.len() {
                 return JobTested::Refused(2);
             }
-            let n = whole_refusal(
-                &j64,
-                &j16,
-                &j8,
-                from8(&j8, CLASSES),
-                from16(&j16, SETS),
-                &j32,
-                from32(&j32, TOS),
-                from16(&j16, VALUES),
-                starts,
-                stops,
-                uses,
-                h.regs,
-                h.classes,
-                h.virt_regs,
-                z.segments,
-                z.fixed,
-            );
-            if n == 0 {
-                return JobTested::Is(h, z);
+            match job_refusal(&j64, &j32, &j16, &j8, starts, stops, uses, h, z) {
+                0 => JobTested::Is(h, z),
+                n => JobTested::Refused(n),
             }
-            JobTested::Refused(n)
         }
     }
 }
@@ -124,6 +141,43 @@ fn store_job(
     );
 }
 
+// Loads the job where the sizes lent and its length are tested already: tests its fields in byte order, and the whole, and stores it.
+fn load_sized(
+    s: &[u8],
+    j64: &mut [u64],
+    j32: &mut [u32],
+    j16: &mut [u16],
+    j8: &mut [u8],
+    jf: &mut [f32],
+    ends: &mut [u64],
+    rests: &mut [u64],
+) -> JobLoaded
+    requires { ⌜ Sized (now s) (lent (slices (now j64) (now j32) (now j16) (now j8) (now jf)) (now ends) (now rests)) ⌝ }
+    ensures { λ r. ⌜ LoadDone (now (s .entry)) (lent (slices (now (j64 .entry)) (now (j32 .entry)) (now (j16 .entry)) (now (j8 .entry)) (now (jf .entry))) (now (ends .entry)) (now (rests .entry))) (lent (slices (now (j64 .exit)) (now (j32 .exit)) (now (j16 .exit)) (now (j8 .exit)) (now (jf .exit))) (now (ends .exit)) (now (rests .exit))) r ⌝ }
+{
+    let mut units = [0u8; 512];
+    let mut starts = [0u32; 512];
+    let mut stops = [0u32; 512];
+    let mut uses = [0u32; 512];
+    match tested(s, &mut units, &mut starts, &mut stops, &mut uses) {
+        JobTested::Refused(n) => JobLoaded::Refused(n),
+        JobTested::Is(h, z) => {
+            store_job(s, j64, j32, j16, j8, jf);
+            reserve_all(
+                ends,
+                rests,
+                &mut j64[USES..],
+                &units,
+                &starts,
+                &stops,
+                &uses,
+                z.fixed,
+            );
+            JobLoaded::Is(h)
+        }
+    }
+}
+
 // Loads the job of these bytes: tests the sizes lent (15), the job's length (4), its fields in byte order, and the whole (2, 10, 11, 12). What is
 // lent takes the layout of the job and of its fresh table; a refusal leaves it as it was.
 pub fn load(
@@ -152,25 +206,5 @@ pub fn load(
     if 32768 < s.len() {
         return JobLoaded::Refused(4);
     }
-    let mut units = [0u8; 512];
-    let mut starts = [0u32; 512];
-    let mut stops = [0u32; 512];
-    let mut uses = [0u32; 512];
-    match tested(s, &mut units, &mut starts, &mut stops, &mut uses) {
-        JobTested::Refused(n) => JobLoaded::Refused(n),
-        JobTested::Is(h, z) => {
-            store_job(s, j64, j32, j16, j8, jf);
-            reserve_all(
-                ends,
-                rests,
-                &mut j64[USES..],
-                &units,
-                &starts,
-                &stops,
-                &uses,
-                z.fixed,
-            );
-            JobLoaded::Is(h)
-        }
-    }
+    load_sized(s, j64, j32, j16, j8, jf, ends, rests)
 }

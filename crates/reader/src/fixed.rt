@@ -167,9 +167,7 @@ pub fn reservations(
     let mut i: usize = 0;
     while i < count as usize {
         match reservation(s, at, &ends) {
-            EntryRead::Refused(n) => {
-                return Next::Refused(n);
-            }
+            EntryRead::Refused(n) => return Next::Refused(n),
             EntryRead::Is(e, next) => {
                 put32(&mut ends, e.unit as usize, e.to);
                 put8(units, i, e.unit);

@@ -39,9 +39,7 @@ pub fn registers(s: &[u8], start: usize, count: u8, maps: &mut [u64]) -> Next
     let mut i: usize = 0;
     while i < count as usize {
         match register(s, at) {
-            Number::Refused(n) => {
-                return Next::Refused(n);
-            }
+            Number::Refused(n) => return Next::Refused(n),
             Number::Is(m, next) => {
                 put(maps, i, m);
                 at = next;
@@ -61,9 +59,7 @@ fn members(s: &[u8], start: usize, count: usize, regs: u64, g: usize, list: &mut
     let mut i = 0;
     while i < count {
         match known8(s, at, regs) {
-            Number::Refused(n) => {
-                return Next::Refused(n);
-            }
+            Number::Refused(n) => return Next::Refused(n),
             Number::Is(r, next) => {
                 put8(list, g + i, r as u8);
                 at = next;
@@ -106,9 +102,7 @@ pub fn classes(
     let mut i: usize = 0;
     while i < count as usize {
         match class(s, at, regs as u64, g as usize, list) {
-            Number::Refused(n) => {
-                return Number::Refused(n);
-            }
+            Number::Refused(n) => return Number::Refused(n),
             Number::Is(k, next) => {
                 g = g + k;
                 put16(starts, i + 1, g as u16);

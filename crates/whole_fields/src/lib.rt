@@ -100,25 +100,23 @@ fn first_tables(
     }
     match reg_table(s, at1, m / 1 % 2 == 1, j64) {
         Number::Refused(n) => FirstRead::Refused(n),
-        Number::Is(rn, at2) => {
-            match class_table(s, at2, m / 2 % 2 == 1, rn as u8, j16, j8) {
-                ClassesRead::Refused(n) => FirstRead::Refused(n),
-                ClassesRead::Is(cn, _, at3) => {
-                    match fixed_table(s, at3, m / 4 % 2 == 1, units, starts, stops, uses) {
-                        Number::Refused(n) => FirstRead::Refused(n),
-                        Number::Is(en, next) => FirstRead::Is(
-                            FirstTables {
-                                map: m as u8,
-                                regs: rn as u8,
-                                classes: cn,
-                                fixed: en as usize,
-                            },
-                            next,
-                        ),
-                    }
+        Number::Is(rn, at2) => match class_table(s, at2, m / 2 % 2 == 1, rn as u8, j16, j8) {
+            ClassesRead::Refused(n) => FirstRead::Refused(n),
+            ClassesRead::Is(cn, _, at3) => {
+                match fixed_table(s, at3, m / 4 % 2 == 1, units, starts, stops, uses) {
+                    Number::Refused(n) => FirstRead::Refused(n),
+                    Number::Is(en, next) => FirstRead::Is(
+                        FirstTables {
+                            map: m as u8,
+                            regs: rn as u8,
+                            classes: cn,
+                            fixed: en as usize,
+                        },
+                        next,
+                    ),
                 }
             }
-        }
+        },
     }
 }
 

@@ -80,7 +80,7 @@ cast-t33 : tie.Need-cast-t33
 cast-t33 c = search needs
 
 cast-t34 : tie.Need-cast-t34
-cast-t34 c = record { fits = omega (arith, num-small (c .before .before .before .before .before .before .before .before .before .before .before .before .before .before .before .class-field .ensures) (c .before .before .before .before .before .before .before .before .before .before .before .before .before .c .given .1), c .before .before .before .before .before .before .before .before .before .before .before .before .before .before .before .before .before .before .before .before .before .before .before .before .before .pre) }
+cast-t34 c = record { fits = omega (arith, num-small (c .before .before .before .before .before .before .before .before .before .before .before .before .before .before .before .class-field .ensures) (c .before .before .before .before .before .before .before .before .before .before .before .before .before .c .given .1), c .before .before .before .before .before .before .before .before .before .before .before .before .before .before .before .before .before .before .before .before .before .before .before .before .before .fits .classes .fits) }
 
 cast-t35 : tie.Need-cast-t35
 cast-t35 c = record { fits = omega (arith, num-small (c .before .before .before .before .before .before .before .before .before .before .before .set-field .ensures) (c .before .before .before .before .before .before .before .before .before .t .given .1)) }

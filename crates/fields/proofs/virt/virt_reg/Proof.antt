@@ -85,7 +85,7 @@ returns-4 c =
     let f = c .before .before .before .before .before .before .before .before .before .before .before .before .before .before .before .before .before .before .before .before .before .f .given .0 in
     let k = c .before .before .before .before .before .before .before .before .before .before .before .hn .given .0 in
     let l = c .before .gn .given .0 in
-    virt-out (a .s .now) (a .regs) (a .classes) (a .n) (a .h) (a .g) (a .at) (f .1 .0) (k .1 .0) (l .1 .0) (k .0) (l .0) (f .0) (p .1) (p .2) (sym (c .before .before .before .before .before .before .before .before .before .before .before .before .before .before .before .before .before .before .before .before .before .before .before .virt-fields .ensures) ∙ ap (fieldsView (a .s .now)) (c .before .before .before .before .before .before .before .before .before .before .before .before .before .before .before .before .before .before .before .before .before .f .given .1)) (rw (c .before .before .before .before .before .before .before .before .before .before .before .hn .given .1) at (c .before .before .before .before .before .before .before .before .before .before .before .before .before .before .before .before .before .hint-table .ensures)) (rw (c .before .gn .given .1) at (c .before .before .before .before .before .before .before .segment-table .ensures))
+    virt-out (a .s .now) (a .regs) (a .classes) (a .n) (a .h) (a .g) (a .at) (f .1 .0) (k .1 .0) (l .1 .0) (k .0) (l .0) (f .0) (p .0) (p .1) (sym (c .before .before .before .before .before .before .before .before .before .before .before .before .before .before .before .before .before .before .before .before .before .before .before .virt-fields .ensures) ∙ ap (fieldsView (a .s .now)) (c .before .before .before .before .before .before .before .before .before .before .before .before .before .before .before .before .before .before .before .before .before .f .given .1)) (rw (c .before .before .before .before .before .before .before .before .before .before .before .hn .given .1) at (c .before .before .before .before .before .before .before .before .before .before .before .before .before .before .before .before .before .hint-table .ensures)) (rw (c .before .gn .given .1) at (c .before .before .before .before .before .before .before .segment-table .ensures))
 
 pub virt-reg-spec : {M : Type 1} → statement M
 virt-reg-spec =

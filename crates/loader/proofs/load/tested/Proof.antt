@@ -46,89 +46,65 @@ same-length-4 c = c .before .before .before .before .before .uses .given
 returns : tie.Need-returns
 returns c = tail-out _ (rw (c .before .before .h .given .1) at (c .before .before .before .before .before .before .before .before .before .before .before .before .before .before .before .before .before .job-fields .ensures)) (c .if1 .taken)
 
-slice-aggregate-whole-refusal : tie.Need-slice-aggregate-whole-refusal
-slice-aggregate-whole-refusal c = search needs
+slice-aggregate-job-refusal : tie.Need-slice-aggregate-job-refusal
+slice-aggregate-job-refusal c = search needs
 
-slice-aggregate-whole-refusal-2 : tie.Need-slice-aggregate-whole-refusal-2
-slice-aggregate-whole-refusal-2 c = search needs
+slice-aggregate-job-refusal-2 : tie.Need-slice-aggregate-job-refusal-2
+slice-aggregate-job-refusal-2 c = search needs
 
-slice-aggregate-whole-refusal-3 : tie.Need-slice-aggregate-whole-refusal-3
-slice-aggregate-whole-refusal-3 c = search needs
+slice-aggregate-job-refusal-3 : tie.Need-slice-aggregate-job-refusal-3
+slice-aggregate-job-refusal-3 c = search needs
 
-slice-aggregate-from8 : tie.Need-slice-aggregate-from8
-slice-aggregate-from8 c = search needs
+slice-aggregate-job-refusal-4 : tie.Need-slice-aggregate-job-refusal-4
+slice-aggregate-job-refusal-4 c = search needs
 
-from8-requires : tie.Need-from8-requires
-from8-requires c κs = search needs
-
-slice-aggregate-from16 : tie.Need-slice-aggregate-from16
-slice-aggregate-from16 c = search needs
-
-from16-requires : tie.Need-from16-requires
-from16-requires c κs = search needs
-
-slice-aggregate-whole-refusal-4 : tie.Need-slice-aggregate-whole-refusal-4
-slice-aggregate-whole-refusal-4 c = search needs
-
-slice-aggregate-from32 : tie.Need-slice-aggregate-from32
-slice-aggregate-from32 c = search needs
-
-from32-requires : tie.Need-from32-requires
-from32-requires c κs = search needs
-
-slice-aggregate-from16-2 : tie.Need-slice-aggregate-from16-2
-slice-aggregate-from16-2 c = search needs
-
-from16-requires-2 : tie.Need-from16-requires-2
-from16-requires-2 c κs = search needs
-
-whole-refusal-requires : tie.Need-whole-refusal-requires
-whole-refusal-requires c κs = search needs
+job-refusal-requires : tie.Need-job-refusal-requires
+job-refusal-requires c κs = search needs
 
 same-length-5 : tie.Need-same-length-5
-same-length-5 c = c .before .before .before .before .before .before .before .before .before .before .before .before .before .before .before .before .before .before .before .before .before .before .before .before .before .before .before .before .units .given
+same-length-5 c = c .before .before .before .before .before .before .before .before .before .before .units .given
 
 same-length-6 : tie.Need-same-length-6
-same-length-6 c = c .before .before .before .before .before .before .before .before .before .before .before .before .before .before .before .before .before .before .before .before .before .before .before .before .before .before .starts .given
+same-length-6 c = c .before .before .before .before .before .before .before .before .starts .given
 
 same-length-7 : tie.Need-same-length-7
-same-length-7 c = c .before .before .before .before .before .before .before .before .before .before .before .before .before .before .before .before .before .before .before .before .before .before .before .before .stops .given
+same-length-7 c = c .before .before .before .before .before .before .stops .given
 
 same-length-8 : tie.Need-same-length-8
-same-length-8 c = c .before .before .before .before .before .before .before .before .before .before .before .before .before .before .before .before .before .before .before .before .before .before .uses .given
+same-length-8 c = c .before .before .before .before .uses .given
 
 returns-2 : tie.Need-returns-2
-returns-2 c = none-out _ (λ i. c .before .before .before .before .before .before .before .before .before .before .before .before .before .before .before .before .before .before .before .before .before .before .before .before .before .before .before .before .before .before .before .before .before .before .before .before .before .before .before .before .before .before .before .before .before .before .before .before .shared-slice-known .given i .fits) (slices _ _ _ _ _) (slices _ _ _ _ _) (rw (c .before .before .before .before .before .before .before .before .before .before .before .before .before .before .before .before .before .before .before .h .given .1) at (c .before .before .before .before .before .before .before .before .before .before .before .before .before .before .before .before .before .before .before .before .before .before .before .before .before .before .before .before .before .before .before .before .before .before .job-fields .ensures)) (record { j64 = omega (arith, length-replicate {A = ℕ} 64 0); j32 = omega (arith, length-replicate {A = ℕ} 1024 0); j16 = omega (arith, length-replicate {A = ℕ} 1041 0); j8 = omega (arith, length-replicate {A = ℕ} 1536 0) }) (c .before .before .before .before .before .before .before .before .before .before .before .before .before .before .before .before .before .before .before .before .before .before .before .before .before .before .before .before .before .before .before .before .before .before .before .before .before .before .before .before .before .before .before .before .before .before .before .before .before .pre) (c .before .before .before .before .before .before .before .before .before .before .before .before .before .before .before .before .before .if1 .left) (rw (c .before .before .before .before .before .before .before .before .before .before .before .before .from8 .ensures, c .before .before .before .before .before .before .before .before .before .before .from16 .ensures, c .before .before .before .before .before .before .before .from32 .ensures, c .before .before .before .before .before .from162 .ensures) at (c .before .whole-refusal .ensures)) (c .if2 .taken)
+returns-2 c = fields-out _ (rw (c .before .n .given .1) at (c .before .before .before .before .before .before .before .before .before .before .before .before .before .before .before .before .job-fields .ensures))
 
 same-length-9 : tie.Need-same-length-9
-same-length-9 c = c .before .before .before .before .before .before .before .before .before .before .units .given
+same-length-9 c = c .before .before .before .before .before .before .before .before .before .before .before .before .before .before .before .before .before .before .before .before .units .given
 
 same-length-10 : tie.Need-same-length-10
-same-length-10 c = c .before .before .before .before .before .before .before .before .starts .given
+same-length-10 c = c .before .before .before .before .before .before .before .before .before .before .before .before .before .before .before .before .before .before .starts .given
 
 same-length-11 : tie.Need-same-length-11
-same-length-11 c = c .before .before .before .before .before .before .stops .given
+same-length-11 c = c .before .before .before .before .before .before .before .before .before .before .before .before .before .before .before .before .stops .given
 
 same-length-12 : tie.Need-same-length-12
-same-length-12 c = c .before .before .before .before .uses .given
+same-length-12 c = c .before .before .before .before .before .before .before .before .before .before .before .before .before .before .uses .given
 
 returns-3 : tie.Need-returns-3
-returns-3 c = fields-out _ (rw (c .before .n .given .1) at (c .before .before .before .before .before .before .before .before .before .before .before .before .before .before .before .before .job-fields .ensures))
+returns-3 c = none-out _ (λ i. c .before .before .before .before .before .before .before .before .before .before .before .before .before .before .before .before .before .before .before .before .before .before .before .before .before .before .before .before .before .before .before .before .before .before .before .before .before .before .before .before .shared-slice-known .given i .fits) (slices _ _ _ _ _) (slices _ _ _ _ _) (rw (c .before .before .before .before .before .before .before .before .before .before .before .h .given .1) at (c .before .before .before .before .before .before .before .before .before .before .before .before .before .before .before .before .before .before .before .before .before .before .before .before .before .before .job-fields .ensures)) (record { j64 = omega (arith, length-replicate {A = ℕ} 64 0); j32 = omega (arith, length-replicate {A = ℕ} 1024 0); j16 = omega (arith, length-replicate {A = ℕ} 1041 0); j8 = omega (arith, length-replicate {A = ℕ} 1536 0) }) (c .before .before .before .before .before .before .before .before .before .before .before .before .before .before .before .before .before .before .before .before .before .before .before .before .before .before .before .before .before .before .before .before .before .before .before .before .before .before .before .before .before .pre) (c .before .before .before .before .before .before .before .before .before .if1 .left) (c .before .job-refusal .ensures) (c .match2 .keys1)
 
 same-length-13 : tie.Need-same-length-13
-same-length-13 c = c .before .before .before .before .before .before .before .before .before .before .before .before .before .before .before .before .before .before .before .before .before .before .before .before .before .before .before .before .units .given
+same-length-13 c = c .before .before .before .before .before .before .before .before .before .before .before .before .before .before .before .before .before .before .before .before .units .given
 
 same-length-14 : tie.Need-same-length-14
-same-length-14 c = c .before .before .before .before .before .before .before .before .before .before .before .before .before .before .before .before .before .before .before .before .before .before .before .before .before .before .starts .given
+same-length-14 c = c .before .before .before .before .before .before .before .before .before .before .before .before .before .before .before .before .before .before .starts .given
 
 same-length-15 : tie.Need-same-length-15
-same-length-15 c = c .before .before .before .before .before .before .before .before .before .before .before .before .before .before .before .before .before .before .before .before .before .before .before .before .stops .given
+same-length-15 c = c .before .before .before .before .before .before .before .before .before .before .before .before .before .before .before .before .stops .given
 
 same-length-16 : tie.Need-same-length-16
-same-length-16 c = c .before .before .before .before .before .before .before .before .before .before .before .before .before .before .before .before .before .before .before .before .before .before .uses .given
+same-length-16 c = c .before .before .before .before .before .before .before .before .before .before .before .before .before .before .uses .given
 
 returns-4 : tie.Need-returns-4
-returns-4 c = one-out _ (λ i. c .before .before .before .before .before .before .before .before .before .before .before .before .before .before .before .before .before .before .before .before .before .before .before .before .before .before .before .before .before .before .before .before .before .before .before .before .before .before .before .before .before .before .before .before .before .before .before .before .shared-slice-known .given i .fits) (slices _ _ _ _ _) (slices _ _ _ _ _) (rw (c .before .before .before .before .before .before .before .before .before .before .before .before .before .before .before .before .before .before .before .h .given .1) at (c .before .before .before .before .before .before .before .before .before .before .before .before .before .before .before .before .before .before .before .before .before .before .before .before .before .before .before .before .before .before .before .before .before .before .job-fields .ensures)) (record { j64 = omega (arith, length-replicate {A = ℕ} 64 0); j32 = omega (arith, length-replicate {A = ℕ} 1024 0); j16 = omega (arith, length-replicate {A = ℕ} 1041 0); j8 = omega (arith, length-replicate {A = ℕ} 1536 0) }) (c .before .before .before .before .before .before .before .before .before .before .before .before .before .before .before .before .before .before .before .before .before .before .before .before .before .before .before .before .before .before .before .before .before .before .before .before .before .before .before .before .before .before .before .before .before .before .before .before .before .pre) (c .before .before .before .before .before .before .before .before .before .before .before .before .before .before .before .before .before .if1 .left) (rw (c .before .before .before .before .before .before .before .before .before .before .before .before .from8 .ensures, c .before .before .before .before .before .before .before .before .before .before .from16 .ensures, c .before .before .before .before .before .before .before .from32 .ensures, c .before .before .before .before .before .from162 .ensures) at (c .before .whole-refusal .ensures)) (c .if2 .left)
+returns-4 c = one-out _ (λ i. c .before .before .before .before .before .before .before .before .before .before .before .before .before .before .before .before .before .before .before .before .before .before .before .before .before .before .before .before .before .before .before .before .before .before .before .before .before .before .before .before .shared-slice-known .given i .fits) (slices _ _ _ _ _) (slices _ _ _ _ _) (rw (c .before .before .before .before .before .before .before .before .before .before .before .h .given .1) at (c .before .before .before .before .before .before .before .before .before .before .before .before .before .before .before .before .before .before .before .before .before .before .before .before .before .before .job-fields .ensures)) (record { j64 = omega (arith, length-replicate {A = ℕ} 64 0); j32 = omega (arith, length-replicate {A = ℕ} 1024 0); j16 = omega (arith, length-replicate {A = ℕ} 1041 0); j8 = omega (arith, length-replicate {A = ℕ} 1536 0) }) (c .before .before .before .before .before .before .before .before .before .before .before .before .before .before .before .before .before .before .before .before .before .before .before .before .before .before .before .before .before .before .before .before .before .before .before .before .before .before .before .before .before .pre) (c .before .before .before .before .before .before .before .before .before .if1 .left) (c .before .job-refusal .ensures) (c .match2 .rest .1)
 
 pub tested-spec : {M : Type 1} → statement M
 tested-spec =
@@ -147,19 +123,11 @@ tested-spec =
     same-length-3
     same-length-4
     returns
-    slice-aggregate-whole-refusal
-    slice-aggregate-whole-refusal-2
-    slice-aggregate-whole-refusal-3
-    slice-aggregate-from8
-    from8-requires
-    slice-aggregate-from16
-    from16-requires
-    slice-aggregate-whole-refusal-4
-    slice-aggregate-from32
-    from32-requires
-    slice-aggregate-from16-2
-    from16-requires-2
-    whole-refusal-requires
+    slice-aggregate-job-refusal
+    slice-aggregate-job-refusal-2
+    slice-aggregate-job-refusal-3
+    slice-aggregate-job-refusal-4
+    job-refusal-requires
     same-length-5
     same-length-6
     same-length-7
