@@ -116,13 +116,13 @@ module _ (header : JobHeader) (B : JobSlices) (S : StateBuffers) (rs : List Assi
       })
 
   pub evicted-so :
-      (kind ≡ 1 → ⊥) → kind ≡ 2
+      kind ≡ 2
       → (v : ℕ) → v ≡ capped 65535 number
       → (n x : ℕ) → Evicted header B v S rs S′ rs′ n x
       → CallAnswered header B (callOf (sizesOf B S) kind number reg weight) S rs S′ rs′ n 0 x
   unfolding callOf
-  evicted-so k l v pv n x p =
-      rw (ne-eqb _ _ k, eq-eqb _ _ l, ← pv)
+  evicted-so l v pv n x p =
+      rw (ne-eqb kind 1 (λ k. let q = sym k ∙ l in absurd (omega (arith, q))), eq-eqb _ _ l, ← pv)
       (record {
         called = p .called;
         numbers = λ j s t reach job head st. (word-evicting j s (sizesOf B S) v, p .taken-away j s t reach job head st);

@@ -258,24 +258,14 @@ module _ (header : JobHeader) (B : JobSlices) (list : List ℕ) (S : StateBuffer
         carried = λ e. (refl, d);
       }
 
--- one call whose words are read, with its numbers stored one after another
-pub call-stored :
-    (header : JobHeader) (B : JobSlices) (L list : List ℕ) (from : ℕ) (S : StateBuffers) (rs : List Assignment) (S′ : StateBuffers) (rs′ : List Assignment) (A : List ℕ)
-    → (k : ℕ) → k ≡ getD list from 0 → (m : ℕ) → m ≡ getD list (from + 1) 0 → (r : ℕ) → r ≡ getD list (from + 2) 0 → (w : ℕ) → w ≡ getD list (from + 3) 0
-    → (n e x : ℕ) → CallAnswered header B (callOf L k m r w) S rs S′ rs′ n e x
-    → (to : ℕ) (A₁ : List ℕ) → A₁ ≡ set A to n → (A₂ : List ℕ) → A₂ ≡ set A₁ (to + 1) e → (A₃ : List ℕ) → A₃ ≡ set A₂ (to + 2) x
-    → CallStored header B (callAt L list from) S rs S′ rs′ A to A₃
-call-stored header B L list from S rs S′ rs′ A k pk m pm r pr w pw n e x c to A₁ p₁ A₂ p₂ A₃ p₃ =
+-- the numbers of a call, stored one after another
+pub numbers-stored :
+    (A A₁ A₂ A₃ : List ℕ) (to n e x : ℕ) → A₁ ≡ set A to n → A₂ ≡ set A₁ (to + 1) e → A₃ ≡ set A₂ (to + 2) x
+    → A₃ ≡ sets A to (n ∷ e ∷ x ∷ [])
+numbers-stored A A₁ A₂ A₃ to n e x p₁ p₂ p₃ =
     let a : to + 1 ≡ suc to = omega arith in
     let b : to + 2 ≡ suc (suc to) = omega arith in
-    record {
-      n = n;
-      e = e;
-      x = x;
-      answered = rw (← pk, ← pm, ← pr, ← pw) c;
-      stored =
-          p₃
-          ∙ ap (λ (l : List ℕ). set l (to + 2) x) (p₂ ∙ ap (λ (l : List ℕ). set l (to + 1) e) p₁)
-          ∙ ap (λ (i : ℕ). set (set (set A to n) i e) (to + 2) x) a
-          ∙ ap (λ (i : ℕ). set (set (set A to n) (suc to) e) i x) b;
-    }
+    p₃
+    ∙ ap (λ (l : List ℕ). set l (to + 2) x) (p₂ ∙ ap (λ (l : List ℕ). set l (to + 1) e) p₁)
+    ∙ ap (λ (i : ℕ). set (set (set A to n) i e) (to + 2) x) a
+    ∙ ap (λ (i : ℕ). set (set (set A to n) (suc to) e) i x) b

@@ -2,13 +2,15 @@
 // (`allocator/mod.rs`) make them. Document 01, "Order" and "Holding".
 ghost use mathlib.Core.Path.{_≡_};
 ghost use mathlib.Core.Bool.{cond};
+ghost use mathlib.Core.List.{[], _∷_};
 ghost use Prim.Native.Nat.{_+_, _<_};
 ghost use lib.Dec.{eqb};
 ghost use lib.ListN.{getD, drop};
+ghost use lib.Seq.{sets};
 ghost use Rattle.job.specs.Layout.{slices};
 ghost use Rattle.run_loop.specs.Running.{lentState};
 ghost use Rattle.calls.specs.Calling.{sizesOf};
-ghost use Rattle.call_lists.specs.Listed.{capped, callOf, hasCall, CallAnswered, CallStored, ListDone, ListCarriedOut};
+ghost use Rattle.call_lists.specs.Listed.{capped, callOf, hasCall, CallStored, ListDone, ListCarriedOut};
 use allocator::Assignment;
 use calls::direct::assign;
 use calls::direct::evict;
@@ -49,40 +51,55 @@ fn reg_given(refusal: u64, reg: u8) -> u64
     if refusal == 0 { reg as u64 } else { 0 }
 }
 
-// Carries out one call. Its refusal's number or 0, its word's number or 0, and its register or dequeues go through the last three.
-fn carry_out_call(
-    records: [Assignment; 512],
+// Stores the three numbers that a call answered, from place `to` on.
+fn store_numbers(out: &mut [u64], to: usize, refusal: u64, ending: u64, value: u64)
+    requires { ⌜ to + 2 < 0x1_0000_0000_0000_0000 ⌝ }
+    ensures { λ r. ⌜ now (out .exit) ≡ sets (now (out .entry)) to (refusal ∷ ending ∷ value ∷ []) ⌝ }
+{
+    put(out, to, refusal);
+    put(out, to + 1, ending);
+    put(out, to + 2, value);
+}
+
+// A call of a list, by its four words: its kind, a number or a budget, a register, and the bits of a weight. Its answer goes into the answers from
+// place `to` on.
+struct ListedCall {
     header: JobHeader,
     kind: u64,
     number: u64,
     reg: u64,
     weight: u64,
-    j64: &[u64],
-    j32: &[u32],
-    j16: &[u16],
-    j8: &[u8],
-    jf: &[f32],
-    ends: &mut [u64],
-    rests: &mut [u64],
-    queue: &mut [u64],
-    last: &mut [u8],
-    refusal: &mut u64,
-    ending: &mut u64,
-    value: &mut u64,
-) -> [Assignment; 512]
-    ensures { λ r. ⌜ CallAnswered header (slices (now (j64 .entry)) (now (j32 .entry)) (now (j16 .entry)) (now (j8 .entry)) (now (jf .entry))) (callOf (sizesOf (slices (now (j64 .entry)) (now (j32 .entry)) (now (j16 .entry)) (now (j8 .entry)) (now (jf .entry))) (lentState (now (ends .entry)) (now (rests .entry)) (now (queue .entry)) (now (last .entry)))) kind number reg weight) (lentState (now (ends .entry)) (now (rests .entry)) (now (queue .entry)) (now (last .entry))) records (lentState (now (ends .exit)) (now (rests .exit)) (now (queue .exit)) (now (last .exit))) r (now (refusal .exit)) (now (ending .exit)) (now (value .exit)) ⌝ }
-{
-    if kind == 1 {
-        let v = capped16(number);
-        let named = capped8(reg);
-        let bits = capped32(weight);
-        let mut refused: u64 = 0;
+    to: usize,
+}
+
+impl ListedCall {
+    // A placement.
+    fn place(
+        self,
+        all: [Assignment; 512],
+        j64: &[u64],
+        j32: &[u32],
+        j16: &[u16],
+        j8: &[u8],
+        jf: &[f32],
+        ends: &mut [u64],
+        rests: &mut [u64],
+        queue: &mut [u64],
+        last: &mut [u8],
+        out: &mut [u64],
+    ) -> [Assignment; 512]
+        requires { ⌜ (self .kind ≡ 1) × (self .to + 2 < 0x1_0000_0000_0000_0000) ⌝ }
+        ensures { λ r. ⌜ CallStored (self .header) (slices (now (j64 .entry)) (now (j32 .entry)) (now (j16 .entry)) (now (j8 .entry)) (now (jf .entry))) (callOf (sizesOf (slices (now (j64 .entry)) (now (j32 .entry)) (now (j16 .entry)) (now (j8 .entry)) (now (jf .entry))) (lentState (now (ends .entry)) (now (rests .entry)) (now (queue .entry)) (now (last .entry)))) (self .kind) (self .number) (self .reg) (self .weight)) (lentState (now (ends .entry)) (now (rests .entry)) (now (queue .entry)) (now (last .entry))) all (lentState (now (ends .exit)) (now (rests .exit)) (now (queue .exit)) (now (last .exit))) r (now (out .entry)) (self .to) (now (out .exit)) ⌝ }
+    {
+        let header = self.header;
+        let reg = capped8(self.reg);
+        let mut refusal: u64 = 0;
         let after = assign(
-            records,
+            all,
             header,
-            v,
-            named,
-            bits,
+            capped16(self.number),
+            reg,
+            capped32(self.weight),
             j64,
             j32,
             j16,
@@ -92,20 +109,38 @@ fn carry_out_call(
             rests,
             queue,
             last,
-            &mut refused,
+            &mut refusal,
         );
-        *refusal = refused;
-        *ending = 0;
-        *value = reg_given(refused, named);
-        return after;
+        let value = reg_given(refusal, reg);
+        store_numbers(out, self.to, refusal, 0, value);
+        after
     }
-    *ending = 0;
-    if kind == 2 {
-        let v = capped16(number);
-        return evict(
-            records,
+
+    // An eviction.
+    fn evict(
+        self,
+        all: [Assignment; 512],
+        j64: &[u64],
+        j32: &[u32],
+        j16: &[u16],
+        j8: &[u8],
+        jf: &[f32],
+        ends: &mut [u64],
+        rests: &mut [u64],
+        queue: &mut [u64],
+        last: &mut [u8],
+        out: &mut [u64],
+    ) -> [Assignment; 512]
+        requires { ⌜ (self .kind ≡ 2) × (self .to + 2 < 0x1_0000_0000_0000_0000) ⌝ }
+        ensures { λ r. ⌜ CallStored (self .header) (slices (now (j64 .entry)) (now (j32 .entry)) (now (j16 .entry)) (now (j8 .entry)) (now (jf .entry))) (callOf (sizesOf (slices (now (j64 .entry)) (now (j32 .entry)) (now (j16 .entry)) (now (j8 .entry)) (now (jf .entry))) (lentState (now (ends .entry)) (now (rests .entry)) (now (queue .entry)) (now (last .entry)))) (self .kind) (self .number) (self .reg) (self .weight)) (lentState (now (ends .entry)) (now (rests .entry)) (now (queue .entry)) (now (last .entry))) all (lentState (now (ends .exit)) (now (rests .exit)) (now (queue .exit)) (now (last .exit))) r (now (out .entry)) (self .to) (now (out .exit)) ⌝ }
+    {
+        let header = self.header;
+        let mut refusal: u64 = 0;
+        let mut taken: u64 = 0;
+        let after = evict(
+            all,
             header,
-            v,
+            capped16(self.number),
             j64,
             j32,
             j16,
@@ -115,26 +150,80 @@ fn carry_out_call(
             rests,
             queue,
             last,
-            refusal,
-            value,
+            &mut refusal,
+            &mut taken,
         );
+        store_numbers(out, self.to, refusal, 0, taken);
+        after
     }
-    run(
-        records,
-        number,
-        j64,
-        j32,
-        j16,
-        j8,
-        jf,
-        ends,
-        rests,
-        queue,
-        last,
-        refusal,
-        ending,
-        value,
-    )
+
+    // A run, which any other kind stands for.
+    fn run(
+        self,
+        all: [Assignment; 512],
+        j64: &[u64],
+        j32: &[u32],
+        j16: &[u16],
+        j8: &[u8],
+        jf: &[f32],
+        ends: &mut [u64],
+        rests: &mut [u64],
+        queue: &mut [u64],
+        last: &mut [u8],
+        out: &mut [u64],
+    ) -> [Assignment; 512]
+        requires { ⌜ (self .kind ≡ 1 → ⊥) × (self .kind ≡ 2 → ⊥) × (self .to + 2 < 0x1_0000_0000_0000_0000) ⌝ }
+        ensures { λ r. ⌜ CallStored (self .header) (slices (now (j64 .entry)) (now (j32 .entry)) (now (j16 .entry)) (now (j8 .entry)) (now (jf .entry))) (callOf (sizesOf (slices (now (j64 .entry)) (now (j32 .entry)) (now (j16 .entry)) (now (j8 .entry)) (now (jf .entry))) (lentState (now (ends .entry)) (now (rests .entry)) (now (queue .entry)) (now (last .entry)))) (self .kind) (self .number) (self .reg) (self .weight)) (lentState (now (ends .entry)) (now (rests .entry)) (now (queue .entry)) (now (last .entry))) all (lentState (now (ends .exit)) (now (rests .exit)) (now (queue .exit)) (now (last .exit))) r (now (out .entry)) (self .to) (now (out .exit)) ⌝ }
+    {
+        let mut refusal: u64 = 0;
+        let mut ending: u64 = 0;
+        let mut dequeues: u64 = 0;
+        let after = run(
+            all,
+            self.number,
+            j64,
+            j32,
+            j16,
+            j8,
+            jf,
+            ends,
+            rests,
+            queue,
+            last,
+            &mut refusal,
+            &mut ending,
+            &mut dequeues,
+        );
+        store_numbers(out, self.to, refusal, ending, dequeues);
+        after
+    }
+
+    // Makes the call by its kind. The records afterwards.
+    fn make(
+        self,
+        all: [Assignment; 512],
+        j64: &[u64],
+        j32: &[u32],
+        j16: &[u16],
+        j8: &[u8],
+        jf: &[f32],
+        ends: &mut [u64],
+        rests: &mut [u64],
+        queue: &mut [u64],
+        last: &mut [u8],
+        out: &mut [u64],
+    ) -> [Assignment; 512]
+        requires { ⌜ self .to + 2 < 0x1_0000_0000_0000_0000 ⌝ }
+        ensures { λ r. ⌜ CallStored (self .header) (slices (now (j64 .entry)) (now (j32 .entry)) (now (j16 .entry)) (now (j8 .entry)) (now (jf .entry))) (callOf (sizesOf (slices (now (j64 .entry)) (now (j32 .entry)) (now (j16 .entry)) (now (j8 .entry)) (now (jf .entry))) (lentState (now (ends .entry)) (now (rests .entry)) (now (queue .entry)) (now (last .entry)))) (self .kind) (self .number) (self .reg) (self .weight)) (lentState (now (ends .entry)) (now (rests .entry)) (now (queue .entry)) (now (last .entry))) all (lentState (now (ends .exit)) (now (rests .exit)) (now (queue .exit)) (now (last .exit))) r (now (out .entry)) (self .to) (now (out .exit)) ⌝ }
+    {
+        if self.kind == 1 {
+            return self.place(all, j64, j32, j16, j8, jf, ends, rests, queue, last, out);
+        }
+        if self.kind == 2 {
+            return self.evict(all, j64, j32, j16, j8, jf, ends, rests, queue, last, out);
+        }
+        self.run(all, j64, j32, j16, j8, jf, ends, rests, queue, last, out)
+    }
 }
 
 // Whether four words of a call stand from place `from` on.
@@ -157,54 +246,19 @@ fn has_call(list: &[u64], from: usize) -> bool
     true
 }
 
-// Carries out the call whose words stand from place `from` on, and stores its three numbers from place `to` of the answers on.
-fn store_call(
-    records: [Assignment; 512],
-    header: JobHeader,
-    list: &[u64],
-    from: usize,
-    j64: &[u64],
-    j32: &[u32],
-    j16: &[u16],
-    j8: &[u8],
-    jf: &[f32],
-    ends: &mut [u64],
-    rests: &mut [u64],
-    queue: &mut [u64],
-    last: &mut [u8],
-    answers: &mut [u64],
-    to: usize,
-) -> [Assignment; 512]
-    requires { ⌜ (from + 3 < 0x1_0000_0000_0000_0000) × (to + 2 < 0x1_0000_0000_0000_0000) ⌝ }
-    ensures { λ r. ⌜ CallStored header (slices (now (j64 .entry)) (now (j32 .entry)) (now (j16 .entry)) (now (j8 .entry)) (now (jf .entry))) (callOf (sizesOf (slices (now (j64 .entry)) (now (j32 .entry)) (now (j16 .entry)) (now (j8 .entry)) (now (jf .entry))) (lentState (now (ends .entry)) (now (rests .entry)) (now (queue .entry)) (now (last .entry)))) (getD (now (list .entry)) from 0) (getD (now (list .entry)) (from + 1) 0) (getD (now (list .entry)) (from + 2) 0) (getD (now (list .entry)) (from + 3) 0)) (lentState (now (ends .entry)) (now (rests .entry)) (now (queue .entry)) (now (last .entry))) records (lentState (now (ends .exit)) (now (rests .exit)) (now (queue .exit)) (now (last .exit))) r (now (answers .entry)) to (now (answers .exit)) ⌝ }
+// The call whose words stand from place `from` on.
+fn call_at(header: JobHeader, list: &[u64], from: usize, to: usize) -> ListedCall
+    requires { ⌜ from + 3 < 0x1_0000_0000_0000_0000 ⌝ }
+    ensures { λ r. ⌜ r ≡ record { header = header; kind = getD (now (list .entry)) from 0; number = getD (now (list .entry)) (from + 1) 0; reg = getD (now (list .entry)) (from + 2) 0; weight = getD (now (list .entry)) (from + 3) 0; to = to } ⌝ }
 {
-    let mut refusal: u64 = 0;
-    let mut ending: u64 = 0;
-    let mut value: u64 = 0;
-    let after = carry_out_call(
-        records,
+    ListedCall {
         header,
-        at(list, from),
-        at(list, from + 1),
-        at(list, from + 2),
-        at(list, from + 3),
-        j64,
-        j32,
-        j16,
-        j8,
-        jf,
-        ends,
-        rests,
-        queue,
-        last,
-        &mut refusal,
-        &mut ending,
-        &mut value,
-    );
-    put(answers, to, refusal);
-    put(answers, to + 1, ending);
-    put(answers, to + 2, value);
-    after
+        kind: at(list, from),
+        number: at(list, from + 1),
+        reg: at(list, from + 2),
+        weight: at(list, from + 3),
+        to,
+    }
 }
 
 // Carries out the calls of the list one after another. `done` takes how many there were.
@@ -221,33 +275,18 @@ fn carry_out_calls(
     rests: &mut [u64],
     queue: &mut [u64],
     last: &mut [u8],
-    answers: &mut [u64],
+    out: &mut [u64],
     done: &mut u64,
 ) -> [Assignment; 512]
-    ensures { λ r. ⌜ ListDone header (slices (now (j64 .entry)) (now (j32 .entry)) (now (j16 .entry)) (now (j8 .entry)) (now (jf .entry))) (now (list .entry)) (lentState (now (ends .entry)) (now (rests .entry)) (now (queue .entry)) (now (last .entry))) records (now (answers .entry)) (lentState (now (ends .exit)) (now (rests .exit)) (now (queue .exit)) (now (last .exit))) r (now (answers .exit)) (now (done .exit)) ⌝ }
+    ensures { λ r. ⌜ ListDone header (slices (now (j64 .entry)) (now (j32 .entry)) (now (j16 .entry)) (now (j8 .entry)) (now (jf .entry))) (now (list .entry)) (lentState (now (ends .entry)) (now (rests .entry)) (now (queue .entry)) (now (last .entry))) records (now (out .entry)) (lentState (now (ends .exit)) (now (rests .exit)) (now (queue .exit)) (now (last .exit))) r (now (out .exit)) (now (done .exit)) ⌝ }
 {
     let mut all = records;
     let mut from: usize = 0;
     let mut to: usize = 0;
     let mut calls: u64 = 0;
     while has_call(list, from) {
-        let after = store_call(
-            all,
-            header,
-            list,
-            from,
-            j64,
-            j32,
-            j16,
-            j8,
-            jf,
-            ends,
-            rests,
-            queue,
-            last,
-            answers,
-            to,
-        );
+        let call = call_at(header, list, from, to);
+        let after = call.make(all, j64, j32, j16, j8, jf, ends, rests, queue, last, out);
         all = after;
         from += 4;
         to += 3;

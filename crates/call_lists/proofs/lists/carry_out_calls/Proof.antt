@@ -11,10 +11,10 @@ use Rattle.call_lists.proofs.lists.carry_out_calls.Statement.{statement
 use Rattle.call_lists.proofs.lists.carry_out_calls.Tie as tie
 
 abbrev Inv-loop : tie.InvT-loop
-Inv-loop header list j64 j32 j16 j8 jf ends₀ rests₀ queue₀ last₀ answers₀ done all₀ from₀ to₀ calls₀ ends rests queue last answers all from to calls = laws.ListTo header (slices j64 j32 j16 j8 jf) list from to calls (lentState ends₀ rests₀ queue₀ last₀) all₀ answers₀ (lentState ends rests queue last) all answers × (length ends ≡ length ends₀) × (length rests ≡ length rests₀) × (length queue ≡ length queue₀) × (length last ≡ length last₀) × (length answers ≡ length answers₀) × (length all ≡ 512)
+Inv-loop header list j64 j32 j16 j8 jf ends₀ rests₀ queue₀ last₀ out₀ done all₀ from₀ to₀ calls₀ ends rests queue last out all from to calls = laws.ListTo header (slices j64 j32 j16 j8 jf) list from to calls (lentState ends₀ rests₀ queue₀ last₀) all₀ out₀ (lentState ends rests queue last) all out × (length ends ≡ length ends₀) × (length rests ≡ length rests₀) × (length queue ≡ length queue₀) × (length last ≡ length last₀) × (length out ≡ length out₀) × (length all ≡ 512)
 
 abbrev μ-loop : tie.MeasureT-loop
-μ-loop header list j64 j32 j16 j8 jf ends₀ rests₀ queue₀ last₀ answers₀ done all₀ from₀ to₀ calls₀ ends rests queue last answers all from to calls = length list - from
+μ-loop header list j64 j32 j16 j8 jf ends₀ rests₀ queue₀ last₀ out₀ done all₀ from₀ to₀ calls₀ ends rests queue last out all from to calls = length list - from
 
 loop-holds : tie.Need-loop-holds Inv-loop μ-loop
 loop-holds c = (laws.list-start _ _ (c .before .before .before .before .before .before .before .before .before .before .before .args .list .now) _ _ _, refl, refl, refl, refl, refl, search needs)
@@ -22,23 +22,26 @@ loop-holds c = (laws.list-start _ _ (c .before .before .before .before .before .
 has-call-requires : tie.Need-has-call-requires Inv-loop μ-loop
 has-call-requires c κs = search needs
 
-store-call-requires : tie.Need-store-call-requires Inv-loop μ-loop
-store-call-requires c κs = let g : length (c .before .before .before .before .before .before .before .before .before .before .before .before .before .before .before .before .before .before .before .args .list .now) < 0x1_0000_0000_0000_0000 = c .before .before .before .before .before .before .before .before .before .before .before .before .before .before .before .before .before .before .before .good .1 .1 .0 .0 in let r = laws.has-room (c .before .before .before .before .before .before .before .before .before .before .before .before .before .before .before .before .before .before .before .args .list .now) (c .before .before .before .before .before .before .before .loop .from) (sym (c .before .before .before .before .before .before .has-call .ensures) ∙ c .before .before .before .before .before .if1 .taken) in let w = c .before .before .before .before .before .before .before .loop .inv .0 .to-within in (omega (arith, g, r), omega (arith, g, r, w))
+call-at-requires : tie.Need-call-at-requires Inv-loop μ-loop
+call-at-requires c κs = let g : length (c .before .before .before .before .before .before .before .before .before .before .before .before .before .before .args .list .now) < 0x1_0000_0000_0000_0000 = c .before .before .before .before .before .before .before .before .before .before .before .before .before .before .good .1 .1 .0 .0 in let r = laws.has-room (c .before .before .before .before .before .before .before .before .before .before .before .before .before .before .args .list .now) (c .before .before .loop .from) (sym (c .before .has-call .ensures) ∙ c .if1 .taken) in omega (arith, g, r)
+
+make-requires : tie.Need-make-requires Inv-loop μ-loop
+make-requires c κs = let g : length (c .before .before .before .before .before .before .before .before .before .before .before .before .before .before .before .before .before .before .before .before .args .list .now) < 0x1_0000_0000_0000_0000 = c .before .before .before .before .before .before .before .before .before .before .before .before .before .before .before .before .before .before .before .before .good .1 .1 .0 .0 in let r = laws.has-room (c .before .before .before .before .before .before .before .before .before .before .before .before .before .before .before .before .before .before .before .before .args .list .now) (c .before .before .before .before .before .before .before .before .loop .from) (sym (c .before .before .before .before .before .before .before .has-call .ensures) ∙ c .before .before .before .before .before .before .if1 .taken) in let w = c .before .before .before .before .before .before .before .before .loop .inv .0 .to-within in rw (c .before .before .before .before .before .call-at .ensures) (omega (arith, g, r, w))
 
 add-from : tie.Need-add-from Inv-loop μ-loop
-add-from c = record { fits = let g : length (c .before .before .before .before .before .before .before .before .before .before .before .before .before .before .before .before .before .before .before .before .before .before .before .before .before .before .before .before .before .before .args .list .now) < 0x1_0000_0000_0000_0000 = c .before .before .before .before .before .before .before .before .before .before .before .before .before .before .before .before .before .before .before .before .before .before .before .before .before .before .before .before .before .before .good .1 .1 .0 .0 in let r = laws.has-room (c .before .before .before .before .before .before .before .before .before .before .before .before .before .before .before .before .before .before .before .before .before .before .before .before .before .before .before .before .before .before .args .list .now) (c .before .before .before .before .before .before .before .before .before .before .before .before .before .before .before .before .before .before .loop .from) (sym (c .before .before .before .before .before .before .before .before .before .before .before .before .before .before .before .before .before .has-call .ensures) ∙ c .before .before .before .before .before .before .before .before .before .before .before .before .before .before .before .before .if1 .taken) in omega (arith, g, r) }
+add-from c = record { fits = let g : length (c .before .before .before .before .before .before .before .before .before .before .before .before .before .before .before .before .before .before .before .before .before .before .before .before .before .before .before .before .before .before .before .args .list .now) < 0x1_0000_0000_0000_0000 = c .before .before .before .before .before .before .before .before .before .before .before .before .before .before .before .before .before .before .before .before .before .before .before .before .before .before .before .before .before .before .before .good .1 .1 .0 .0 in let r = laws.has-room (c .before .before .before .before .before .before .before .before .before .before .before .before .before .before .before .before .before .before .before .before .before .before .before .before .before .before .before .before .before .before .before .args .list .now) (c .before .before .before .before .before .before .before .before .before .before .before .before .before .before .before .before .before .before .before .loop .from) (sym (c .before .before .before .before .before .before .before .before .before .before .before .before .before .before .before .before .before .before .has-call .ensures) ∙ c .before .before .before .before .before .before .before .before .before .before .before .before .before .before .before .before .before .if1 .taken) in omega (arith, g, r) }
 
 add-to : tie.Need-add-to Inv-loop μ-loop
-add-to c = record { fits = let g : length (c .before .before .before .before .before .before .before .before .before .before .before .before .before .before .before .before .before .before .before .before .before .before .before .before .before .before .before .before .before .before .args .list .now) < 0x1_0000_0000_0000_0000 = c .before .before .before .before .before .before .before .before .before .before .before .before .before .before .before .before .before .before .before .before .before .before .before .before .before .before .before .before .before .before .good .1 .1 .0 .0 in let r = laws.has-room (c .before .before .before .before .before .before .before .before .before .before .before .before .before .before .before .before .before .before .before .before .before .before .before .before .before .before .before .before .before .before .args .list .now) (c .before .before .before .before .before .before .before .before .before .before .before .before .before .before .before .before .before .before .loop .from) (sym (c .before .before .before .before .before .before .before .before .before .before .before .before .before .before .before .before .before .has-call .ensures) ∙ c .before .before .before .before .before .before .before .before .before .before .before .before .before .before .before .before .if1 .taken) in let w = c .before .before .before .before .before .before .before .before .before .before .before .before .before .before .before .before .before .before .loop .inv .0 .to-within in omega (arith, g, r, w) }
+add-to c = record { fits = let g : length (c .before .before .before .before .before .before .before .before .before .before .before .before .before .before .before .before .before .before .before .before .before .before .before .before .before .before .before .before .before .before .before .args .list .now) < 0x1_0000_0000_0000_0000 = c .before .before .before .before .before .before .before .before .before .before .before .before .before .before .before .before .before .before .before .before .before .before .before .before .before .before .before .before .before .before .before .good .1 .1 .0 .0 in let r = laws.has-room (c .before .before .before .before .before .before .before .before .before .before .before .before .before .before .before .before .before .before .before .before .before .before .before .before .before .before .before .before .before .before .before .args .list .now) (c .before .before .before .before .before .before .before .before .before .before .before .before .before .before .before .before .before .before .before .loop .from) (sym (c .before .before .before .before .before .before .before .before .before .before .before .before .before .before .before .before .before .before .has-call .ensures) ∙ c .before .before .before .before .before .before .before .before .before .before .before .before .before .before .before .before .before .if1 .taken) in let w = c .before .before .before .before .before .before .before .before .before .before .before .before .before .before .before .before .before .before .before .loop .inv .0 .to-within in omega (arith, g, r, w) }
 
 add-calls : tie.Need-add-calls Inv-loop μ-loop
-add-calls c = record { fits = let g : length (c .before .before .before .before .before .before .before .before .before .before .before .before .before .before .before .before .before .before .before .before .before .before .before .before .before .before .before .before .before .before .args .list .now) < 0x1_0000_0000_0000_0000 = c .before .before .before .before .before .before .before .before .before .before .before .before .before .before .before .before .before .before .before .before .before .before .before .before .before .before .before .before .before .before .good .1 .1 .0 .0 in let r = laws.has-room (c .before .before .before .before .before .before .before .before .before .before .before .before .before .before .before .before .before .before .before .before .before .before .before .before .before .before .before .before .before .before .args .list .now) (c .before .before .before .before .before .before .before .before .before .before .before .before .before .before .before .before .before .before .loop .from) (sym (c .before .before .before .before .before .before .before .before .before .before .before .before .before .before .before .before .before .has-call .ensures) ∙ c .before .before .before .before .before .before .before .before .before .before .before .before .before .before .before .before .if1 .taken) in let w = c .before .before .before .before .before .before .before .before .before .before .before .before .before .before .before .before .before .before .loop .inv .0 .calls-within in omega (arith, g, r, w) }
+add-calls c = record { fits = let g : length (c .before .before .before .before .before .before .before .before .before .before .before .before .before .before .before .before .before .before .before .before .before .before .before .before .before .before .before .before .before .before .before .args .list .now) < 0x1_0000_0000_0000_0000 = c .before .before .before .before .before .before .before .before .before .before .before .before .before .before .before .before .before .before .before .before .before .before .before .before .before .before .before .before .before .before .before .good .1 .1 .0 .0 in let r = laws.has-room (c .before .before .before .before .before .before .before .before .before .before .before .before .before .before .before .before .before .before .before .before .before .before .before .before .before .before .before .before .before .before .before .args .list .now) (c .before .before .before .before .before .before .before .before .before .before .before .before .before .before .before .before .before .before .before .loop .from) (sym (c .before .before .before .before .before .before .before .before .before .before .before .before .before .before .before .before .before .before .has-call .ensures) ∙ c .before .before .before .before .before .before .before .before .before .before .before .before .before .before .before .before .before .if1 .taken) in let w = c .before .before .before .before .before .before .before .before .before .before .before .before .before .before .before .before .before .before .before .loop .inv .0 .calls-within in omega (arith, g, r, w) }
 
 loop-less : tie.Need-loop-less Inv-loop μ-loop
-loop-less c = let r = laws.has-room (c .before .before .before .before .before .before .before .before .before .before .before .before .before .before .before .before .before .before .before .before .before .before .before .before .before .before .before .before .before .before .args .list .now) (c .before .before .before .before .before .before .before .before .before .before .before .before .before .before .before .before .before .before .loop .from) (sym (c .before .before .before .before .before .before .before .before .before .before .before .before .before .before .before .before .before .has-call .ensures) ∙ c .before .before .before .before .before .before .before .before .before .before .before .before .before .before .before .before .if1 .taken) in omega (arith, r)
+loop-less c = let r = laws.has-room (c .before .before .before .before .before .before .before .before .before .before .before .before .before .before .before .before .before .before .before .before .before .before .before .before .before .before .before .before .before .before .before .args .list .now) (c .before .before .before .before .before .before .before .before .before .before .before .before .before .before .before .before .before .before .before .loop .from) (sym (c .before .before .before .before .before .before .before .before .before .before .before .before .before .before .before .before .before .before .has-call .ensures) ∙ c .before .before .before .before .before .before .before .before .before .before .before .before .before .before .before .before .before .if1 .taken) in omega (arith, r)
 
 loop-again : tie.Need-loop-again Inv-loop μ-loop
-loop-again c = (laws.list-more _ _ (c .before .before .before .before .before .before .before .before .before .before .before .before .before .before .before .before .before .before .before .before .before .before .before .before .before .before .before .before .before .before .args .list .now) _ _ _ _ _ _ _ _ _ (c .before .before .before .before .before .before .before .before .before .before .before .before .before .before .before .before .before .before .loop .inv .0) (sym (c .before .before .before .before .before .before .before .before .before .before .before .before .before .before .before .before .if1 .taken) ∙ c .before .before .before .before .before .before .before .before .before .before .before .before .before .before .before .before .before .has-call .ensures) (c .before .before .before .before .before .before .before .before .before .before .before .before .before .before .before .before .before .before .loop .inv .1) (c .before .before .before .before .before .before .before .before .before .before .before .before .before .before .before .before .before .before .loop .inv .2) (c .before .before .before .before .before .before .before .before .before .before .before .before .before .before .before .before .before .before .loop .inv .3) (c .before .before .before .before .before .before .before .before .before .before .before .before .before .before .before .before .before .before .loop .inv .4) _ _ _ (c .before .before .before .before .before .before .before .before .before .before .store-call .ensures), c .before .before .before .before .before .before .before .before .before .before .store-call .kept .1 .1 .1 .1 .1 .1 .1 .1 .1 .0 ∙ c .before .before .before .before .before .before .before .before .before .before .before .before .before .before .before .before .before .before .loop .inv .1, c .before .before .before .before .before .before .before .before .before .before .store-call .kept .1 .1 .1 .1 .1 .1 .1 .1 .1 .1 .0 ∙ c .before .before .before .before .before .before .before .before .before .before .before .before .before .before .before .before .before .before .loop .inv .2, c .before .before .before .before .before .before .before .before .before .before .store-call .kept .1 .1 .1 .1 .1 .1 .1 .1 .1 .1 .1 .0 ∙ c .before .before .before .before .before .before .before .before .before .before .before .before .before .before .before .before .before .before .loop .inv .3, c .before .before .before .before .before .before .before .before .before .before .store-call .kept .1 .1 .1 .1 .1 .1 .1 .1 .1 .1 .1 .1 .0 ∙ c .before .before .before .before .before .before .before .before .before .before .before .before .before .before .before .before .before .before .loop .inv .4, c .before .before .before .before .before .before .before .before .before .before .store-call .kept .1 .1 .1 .1 .1 .1 .1 .1 .1 .1 .1 .1 .1 .0 ∙ c .before .before .before .before .before .before .before .before .before .before .before .before .before .before .before .before .before .before .loop .inv .5, search needs)
+loop-again c = (laws.list-more _ _ (c .before .before .before .before .before .before .before .before .before .before .before .before .before .before .before .before .before .before .before .before .before .before .before .before .before .before .before .before .before .before .before .args .list .now) _ _ _ _ _ _ _ _ _ (c .before .before .before .before .before .before .before .before .before .before .before .before .before .before .before .before .before .before .before .loop .inv .0) (sym (c .before .before .before .before .before .before .before .before .before .before .before .before .before .before .before .before .before .if1 .taken) ∙ c .before .before .before .before .before .before .before .before .before .before .before .before .before .before .before .before .before .before .has-call .ensures) (c .before .before .before .before .before .before .before .before .before .before .before .before .before .before .before .before .before .before .before .loop .inv .1) (c .before .before .before .before .before .before .before .before .before .before .before .before .before .before .before .before .before .before .before .loop .inv .2) (c .before .before .before .before .before .before .before .before .before .before .before .before .before .before .before .before .before .before .before .loop .inv .3) (c .before .before .before .before .before .before .before .before .before .before .before .before .before .before .before .before .before .before .before .loop .inv .4) _ _ _ (rw (c .before .before .before .before .before .before .before .before .before .before .before .before .before .before .before .before .call-at .ensures) at (c .before .before .before .before .before .before .before .before .before .before .make .ensures)), c .before .before .before .before .before .before .before .before .before .before .make .kept .1 .1 .1 .1 .1 .1 .1 .0 ∙ c .before .before .before .before .before .before .before .before .before .before .before .before .before .before .before .before .before .before .before .loop .inv .1, c .before .before .before .before .before .before .before .before .before .before .make .kept .1 .1 .1 .1 .1 .1 .1 .1 .0 ∙ c .before .before .before .before .before .before .before .before .before .before .before .before .before .before .before .before .before .before .before .loop .inv .2, c .before .before .before .before .before .before .before .before .before .before .make .kept .1 .1 .1 .1 .1 .1 .1 .1 .1 .0 ∙ c .before .before .before .before .before .before .before .before .before .before .before .before .before .before .before .before .before .before .before .loop .inv .3, c .before .before .before .before .before .before .before .before .before .before .make .kept .1 .1 .1 .1 .1 .1 .1 .1 .1 .1 .0 ∙ c .before .before .before .before .before .before .before .before .before .before .before .before .before .before .before .before .before .before .before .loop .inv .4, c .before .before .before .before .before .before .before .before .before .before .make .kept .1 .1 .1 .1 .1 .1 .1 .1 .1 .1 .1 .0 ∙ c .before .before .before .before .before .before .before .before .before .before .before .before .before .before .before .before .before .before .before .loop .inv .5, search needs)
 
 same-length : tie.Need-same-length Inv-loop μ-loop
 same-length c = c .before .before .loop .inv .1
@@ -66,7 +69,8 @@ carry-out-calls-spec =
     μ-loop
     loop-holds
     has-call-requires
-    store-call-requires
+    call-at-requires
+    make-requires
     add-from
     add-to
     add-calls

@@ -1,0 +1,60 @@
+use borrow.Author.Needs.{needs}
+use native.Mathlib.Omega.{arith}
+use Rattle.job.specs.Layout.{slices}
+use Rattle.run_loop.specs.Running.{lentState}
+use Rattle.call_lists.proofs.CallLaws.{placed-so}
+use Rattle.call_lists.proofs.lists.ListedCall.place.Statement.{statement}
+use Rattle.call_lists.proofs.lists.ListedCall.place.Tie as tie
+
+capped8-requires : tie.Need-capped8-requires
+capped8-requires c κs = search needs
+
+capped16-requires : tie.Need-capped16-requires
+capped16-requires c κs = search needs
+
+capped32-requires : tie.Need-capped32-requires
+capped32-requires c κs = search needs
+
+assign-requires : tie.Need-assign-requires
+assign-requires c κs = search needs
+
+reg-given-requires : tie.Need-reg-given-requires
+reg-given-requires c κs = search needs
+
+store-numbers-requires : tie.Need-store-numbers-requires
+store-numbers-requires c κs = c .before .before .before .before .before .before .before .before .before .before .before .before .before .before .before .before .before .before .before .before .before .before .before .before .before .before .before .before .before .before .pre .1
+
+same-length : tie.Need-same-length
+same-length c = search needs
+
+same-length-2 : tie.Need-same-length-2
+same-length-2 c = search needs
+
+same-length-3 : tie.Need-same-length-3
+same-length-3 c = search needs
+
+same-length-4 : tie.Need-same-length-4
+same-length-4 c = search needs
+
+same-length-5 : tie.Need-same-length-5
+same-length-5 c = search needs
+
+returns : tie.Need-returns
+returns c = record { n = _; e = 0; x = _; answered = placed-so _ (slices (c .before .before .before .before .before .before .before .before .before .before .before .before .before .before .before .before .before .before .before .before .before .before .before .before .before .before .before .before .before .before .before .before .before .args .j64 .now) (c .before .before .before .before .before .before .before .before .before .before .before .before .before .before .before .before .before .before .before .before .before .before .before .before .before .before .before .before .before .before .before .before .before .args .j32 .now) (c .before .before .before .before .before .before .before .before .before .before .before .before .before .before .before .before .before .before .before .before .before .before .before .before .before .before .before .before .before .before .before .before .before .args .j16 .now) (c .before .before .before .before .before .before .before .before .before .before .before .before .before .before .before .before .before .before .before .before .before .before .before .before .before .before .before .before .before .before .before .before .before .args .j8 .now) (c .before .before .before .before .before .before .before .before .before .before .before .before .before .before .before .before .before .before .before .before .before .before .before .before .before .before .before .before .before .before .before .before .before .args .jf .now)) (lentState (c .before .before .before .before .before .before .before .before .before .before .before .before .before .before .before .before .before .before .before .before .before .before .before .before .before .before .before .before .before .before .before .before .before .args .ends .now) (c .before .before .before .before .before .before .before .before .before .before .before .before .before .before .before .before .before .before .before .before .before .before .before .before .before .before .before .before .before .before .before .before .before .args .rests .now) (c .before .before .before .before .before .before .before .before .before .before .before .before .before .before .before .before .before .before .before .before .before .before .before .before .before .before .before .before .before .before .before .before .before .args .queue .now) (c .before .before .before .before .before .before .before .before .before .before .before .before .before .before .before .before .before .before .before .before .before .before .before .before .before .before .before .before .before .before .before .before .before .args .last .now)) _ _ _ _ _ _ _ (c .before .before .before .before .before .before .before .before .before .before .before .before .before .before .before .before .before .before .before .before .before .before .before .before .before .before .before .before .before .before .before .before .before .pre .0) _ (c .before .before .before .before .before .before .before .before .before .before .before .before .before .before .before .before .before .before .before .before .capped16 .ensures) _ (c .before .before .before .before .before .before .before .before .before .before .before .before .before .before .before .before .before .before .before .before .before .capped8 .ensures) _ (c .before .before .before .before .before .before .before .before .before .before .before .before .before .before .before .before .before .before .before .capped32 .ensures) _ (c .before .before .before .before .before .before .before .before .before .before .before .before .before .assign .ensures) _ (c .before .before .before .before .reg-given .ensures); stored = c .before .before .store-numbers .ensures }
+
+pub place-spec : {M : Type 1} → statement M
+place-spec =
+    tie.close
+    (tie.spec
+    capped8-requires
+    capped16-requires
+    capped32-requires
+    assign-requires
+    reg-given-requires
+    store-numbers-requires
+    same-length
+    same-length-2
+    same-length-3
+    same-length-4
+    same-length-5
+    returns)
