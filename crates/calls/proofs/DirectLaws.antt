@@ -8,6 +8,7 @@ use mathlib.Core.Bool.{Bool, true, false, not}
 use lib.Dec.{T, leb, nleb→lt}
 use lib.Ieee.{Float, binary32, ofBits}
 use lib.ListN.{length, getD, set, List·getD-eq-default}
+use lib.Seq.{set-getD}
 use Rattle.reg_matrix.specs.Lists.{isSome}
 use Rattle.reg_matrix.specs.Refusals.{refusal, shortBuffer}
 use Rattle.lent.proofs.Laws.{any-default}
@@ -82,6 +83,10 @@ record-past rs v l h = let m : length rs ≤ v = omega (arith, l, h) in sym (Lis
 
 pub record-inside : (rs : List Assignment) (v : ℕ) (d : Assignment) → length rs ≡ 512 → v < 512 → getD rs v d ≡ getD rs v Dead
 record-inside rs v d l h = any-default rs v d Dead (omega (arith, l, h))
+
+-- stored as it was read
+pub kept-record : (rs : List Assignment) (v : ℕ) (a : Assignment) → a ≡ getD rs v Dead → set rs v a ≡ rs
+kept-record rs v a read = rw read (set-getD rs v Dead)
 
 -- it was read on a state that calls reach
 module _ (B : JobSlices) (v : ℕ) (S : StateBuffers) (rs : List Assignment) (a : Assignment) (read : a ≡ getD rs v Dead) where
@@ -258,7 +263,7 @@ module _ (header : JobHeader) (B : JobSlices) (v : ℕ) (S : StateBuffers) (rs :
 
   module _ (z : n ≡ 0) (reg x : ℕ) (pg : reg ≡ regIn a) (px : x ≡ reg) (ends′ rests′ queue′ : List ℕ)
       (tb : TakenBack v reg (wideLists B) (S .ends) (S .rests) (S .queue) ends′ rests′ queue′)
-      (f : Bool) (pf : f ≡ flagIn a) (rs′ : List Assignment) (pr : rs′ ≡ set rs v (Unassigned f)) where
+      (y : Assignment) (py : y ≡ Unassigned (flagIn a)) (rs′ : List Assignment) (pr : rs′ ≡ set rs v y) where
     lost :
         (j : Job) (s : State) (t : StateBuffers) → Reached j s → JobStands j (listsIn B) → StateStands j s t S rs
         → IsNumber j v → (c : CandidateReg) → heldBy s v ≡ some c
@@ -276,8 +281,8 @@ module _ (header : JobHeader) (B : JobSlices) (v : ℕ) (S : StateBuffers) (rs :
               };
           records-are =
               pr
-              ∙ ap (λ (l : List Assignment). set l v (Unassigned f)) (st .records-are)
-              ∙ ap (λ (y : Bool). set (records s) v (Unassigned y)) (pf ∙ ap flagIn a-is)
+              ∙ ap (λ (l : List Assignment). set l v y) (st .records-are)
+              ∙ ap (set (records s) v) (py ∙ ap (λ (b : Assignment). Unassigned (flagIn b)) a-is)
               ∙ sym (lose-records j s g v b (c .reg) stays);
         }
 
@@ -286,7 +291,7 @@ module _ (header : JobHeader) (B : JobSlices) (v : ℕ) (S : StateBuffers) (rs :
     evicting-done =
         record {
           answer = evict-decided;
-          recorded = λ _. (pr ∙ ap (λ (y : Bool). set rs v (Unassigned y)) (pf ∙ ap flagIn read), px ∙ pg ∙ ap regIn read);
+          recorded = λ _. (pr ∙ ap (set rs v) (py ∙ ap (λ (b : Assignment). Unassigned (flagIn b)) read), px ∙ pg ∙ ap regIn read);
           nothing = λ y. absurd (y z);
           called =
               record {

@@ -50,19 +50,8 @@ pub fn run(
     }
     let mut words = [0u64; 512];
     store(records, &mut words);
-    let end = run_on(
-        budget,
-        j64,
-        j32,
-        j16,
-        j8,
-        jf,
-        ends,
-        rests,
-        queue,
-        last,
-        &mut words,
-    );
+    let all: &mut [u64] = &mut words;
+    let end = run_on(budget, j64, j32, j16, j8, jf, ends, rests, queue, last, all);
     let word = end.ending;
     *answer = 0;
     *ending = ending_number(word);

@@ -5,9 +5,10 @@ use native.Mathlib.Omega.{arith}
 use mathlib.Core.Path.{_≡_, refl, sym, ap, _∙_, subst}
 use mathlib.Core.List.{List, map}
 use mathlib.Core.Bool.{Bool, true, false, _||_}
-use lib.Dec.{T}
+use lib.Dec.{T, ltb}
 use lib.ListN.{length, drop, length-map}
 use lib.Seq.{sets, sets-eq, drop-at}
+use borrow.Author.Tests.{ltb-false}
 use Rattle.reg_matrix.specs.Refusals.{shortBuffer}
 use Rattle.job.specs.Model.{Job}
 use Rattle.job.specs.Layout.{JobSlices}
@@ -20,11 +21,20 @@ use Rattle.calls.specs.Calling as calling
 use Rattle.calls.specs.Calling.{sizesOf, StateStands}
 use Rattle.records.specs.Words.{recordWord, recordsIn, AllPlain}
 use Rattle.records.proofs.PlainRecords.{plain-records}
-use Rattle.words.specs.Words.{headerIn}
+use Rattle.words.specs.Words.{headerIn, wordsShort}
 use Rattle.pezhkadu.specs.Calling.{Called}
 
 pub not-both : false ≡ true → ⊥
 not-both q = subst (λ (b : Bool). T (elim b as (λ x. Bool) [ true ↦ false | false ↦ true ])) q tt
+
+-- the words that are long enough
+pub long-both : (head ws : List ℕ) → wordsShort head ws ≡ false → (8 ≤ length head) × (512 ≤ length ws)
+long-both head ws e = go (ltb (length head) 8) (ltb (length ws) 512) refl refl e
+  where
+    go : (a b : Bool) → ltb (length head) 8 ≡ a → ltb (length ws) 512 ≡ b → (a || b) ≡ false → (8 ≤ length head) × (512 ≤ length ws)
+    go true b ea eb f = absurd (not-both (sym f))
+    go false true ea eb f = absurd (not-both (sym f))
+    go false false ea eb f = (ltb-false (length head) 8 ea, ltb-false (length ws) 512 eb)
 
 -- ---- one call
 
@@ -70,22 +80,15 @@ module _ (own : Bool) (head : List ℕ) (B : JobSlices) (c : Call) (S : StateBuf
         }
 
     -- carried out, the records are stored
-    pub call-done :
-        m ≡ 0
-        → (ws′ : List ℕ)
-        → ws′ ≡ sets ws 0 (map recordWord rs′)
-        → (AllPlain rs′ → 512 ≤ length ws → recordsIn ws′ ≡ rs′)
-        → length rs′ ≡ 512
-        → 512 ≤ length ws
-        → Called own head B c S ws S′ ws′ 0
-    call-done z ws′ e back n l =
+    pub call-done : m ≡ 0 → (ws′ : List ℕ) → drop 512 ws′ ≡ drop 512 ws → (AllPlain rs′ → recordsIn ws′ ≡ rs′) → Called own head B c S ws S′ ws′ 0
+    call-done z ws′ e back =
         record {
           short = λ s. sym z ∙ short-first s;
           unchanged = λ k. absurd (k refl);
-          behind = ap (drop 512) e ∙ tail-kept rs′ ws n l;
+          behind = e;
           reached =
               λ f j s t reach job h st.
               let a = d .reached j s t reach job h (stands j s t st) in
               let plain = subst AllPlain (sym (a .1 .records-are)) (plain-records j (after j s c) (reached-after j s reach c)) in
-              (sym z ∙ a .0, record { stands = a .1 .stands; records-are = back plain l ∙ a .1 .records-are });
+              (sym z ∙ a .0, record { stands = a .1 .stands; records-are = back plain ∙ a .1 .records-are });
         }

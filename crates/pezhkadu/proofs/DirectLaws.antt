@@ -8,7 +8,7 @@ use mathlib.Core.Option.{Option, some}
 use mathlib.Core.Bool.{Bool, true, false, cond, _||_}
 use lib.Dec.{ltb, leb}
 use lib.Ieee.{binary32, ofBits}
-use lib.ListN.{length, set}
+use lib.ListN.{length, set, drop}
 use lib.Seq.{sets}
 use borrow.Author.Tests.{lt-ltb, le-ltb, le-leb, ltb-true, ltb-false}
 use Rattle.reg_matrix.specs.Lists.{isNil}
@@ -27,10 +27,10 @@ use Rattle.calls.specs.Calling as calling
 use Rattle.calls.specs.Calling.{sizesOf, refusalNumber, valueNumber, StateStands}
 use Rattle.call_tests.proofs.RefusalLaws.{placing-tests, evicting-tests}
 use Rattle.records.specs.Words.{recordWord, recordsIn, AllPlain}
-use Rattle.words.specs.Words.{headerIn, cut}
-use Rattle.pezhkadu.specs.Calling.{Called, assignShort, evictShort, EvictCalled}
+use Rattle.words.specs.Words.{headerIn, cut, wordsShort}
+use Rattle.pezhkadu.specs.Calling.{Called, evictShort, EvictCalled}
 use Rattle.words.proofs.NumberLaws.{uncut}
-use Rattle.pezhkadu.proofs.CallLaws.{own-short, call-refused, call-done}
+use Rattle.pezhkadu.proofs.CallLaws.{long-both, own-short, call-refused, call-done}
 
 -- ---- cut numbers
 
@@ -216,18 +216,15 @@ module _ (head : List ℕ) (B : JobSlices) (v r bits : ℕ) (S : StateBuffers) (
   abbrev asked : Call
   asked = placing (sizesOf B S) v r (ofBits binary32 bits)
 
-  pub assign-header-short : length head < 8 → Called (assignShort head ws) head B asked S ws S ws 15
-  assign-header-short h = own-short _ head B asked S ws (ap (λ (b : Bool). b || ltb (length ws) 512) (lt-ltb _ _ h))
-
-  pub assign-records-short : 8 ≤ length head → length ws < 512 → Called (assignShort head ws) head B asked S ws S ws 15
-  assign-records-short l h = own-short _ head B asked S ws (ap (λ (b : Bool). b || ltb (length ws) 512) (le-ltb _ _ l) ∙ lt-ltb _ _ h)
+  pub assign-short : wordsShort head ws ≡ true → Called (wordsShort head ws) head B asked S ws S ws 15
+  assign-short e = own-short _ head B asked S ws e
 
   module _
-      (l : 8 ≤ length head) (k : 512 ≤ length ws) (rs rs′ : List Assignment) (S′ : StateBuffers) (m : ℕ) (header : JobHeader) (v′ r′ bits′ : ℕ)
+      (long : wordsShort head ws ≡ false) (rs′ : List Assignment) (S′ : StateBuffers) (m : ℕ) (header : JobHeader) (v′ r′ bits′ : ℕ)
       (known : header ≡ headerIn head) (ev : v′ ≡ cut 0xFFFF v) (er : r′ ≡ cut 0xFF r) (eb : bits′ ≡ cut 0xFFFF_FFFF bits)
-      (read : rs ≡ recordsIn ws) (d : calling.Placed header B v′ r′ bits′ S rs S′ rs′ m) where
-    long : assignShort head ws ≡ false
-    long = ap (λ (b : Bool). b || ltb (length ws) 512) (le-ltb _ _ l) ∙ le-ltb _ _ k
+      (d : calling.Placed header B v′ r′ bits′ S (recordsIn ws) S′ rs′ m) where
+    abbrev rs : List Assignment
+    rs = recordsIn ws
 
     called : calling.Called (headerIn head) B asked S rs S′ rs′ m
     called =
@@ -238,17 +235,15 @@ module _ (head : List ℕ) (B : JobSlices) (v r bits : ℕ) (S : StateBuffers) (
         (subst (λ (x : ℕ). calling.Called header B (placing (sizesOf B S) v′ x (ofBits binary32 (cut 0xFFFF_FFFF bits))) S rs S′ rs′ m) er
         (subst (λ (x : ℕ). calling.Called header B (placing (sizesOf B S) v′ r′ (ofBits binary32 x)) S rs S′ rs′ m) eb (d .called)))))
 
-    pub assign-refused : (m ≡ 0 → ⊥) → Called (assignShort head ws) head B asked S ws S′ ws m
-    assign-refused z = call-refused _ head B asked S ws rs rs′ S′ m long read called z
+    pub assign-refused : (m ≡ 0 → ⊥) → Called (wordsShort head ws) head B asked S ws S′ ws m
+    assign-refused z = call-refused _ head B asked S ws rs rs′ S′ m long refl called z
 
     pub assign-done :
         m ≡ 0
         → (ws′ : List ℕ)
-        → ws′ ≡ sets ws 0 (map recordWord rs′)
-        → (AllPlain rs′ → 512 ≤ length ws → recordsIn ws′ ≡ rs′)
-        → length rs′ ≡ 512
-        → Called (assignShort head ws) head B asked S ws S′ ws′ 0
-    assign-done z ws′ e back n = call-done _ head B asked S ws rs rs′ S′ m long read called z ws′ e back n k
+        → (drop 512 ws′ ≡ drop 512 ws) × (AllPlain rs′ → 512 ≤ length ws → recordsIn ws′ ≡ rs′)
+        → Called (wordsShort head ws) head B asked S ws S′ ws′ 0
+    assign-done z ws′ p = call-done _ head B asked S ws rs rs′ S′ m long refl called z ws′ (p .0) (λ q. p .1 q (long-both head ws long .1))
 
 -- ---- an eviction
 
@@ -256,40 +251,40 @@ module _ (head : List ℕ) (B : JobSlices) (v : ℕ) (S : StateBuffers) (ws answ
   abbrev sought : Call
   sought = evicting (sizesOf B S) v
 
-  short-is : (a b c : Bool) → ltb (length head) 8 ≡ a → ltb (length ws) 512 ≡ b → ltb (length answer) 1 ≡ c → evictShort head ws answer ≡ (a || (b || c))
-  short-is a b c ea eb ec = rw (ea, eb, ec) refl
+  short-is : (a b : Bool) → wordsShort head ws ≡ a → ltb (length answer) 1 ≡ b → evictShort head ws answer ≡ (a || b)
+  short-is a b ea eb = rw (ea, eb) refl
 
   too-short : evictShort head ws answer ≡ true → EvictCalled head B v S ws answer S ws answer 15
   too-short e =
       record { called = own-short _ head B sought S ws e; no-answer = λ n. refl; answered = λ j s t reach job h st z. absurd (omega (arith, z)) }
 
-  pub evict-header-short : length head < 8 → EvictCalled head B v S ws answer S ws answer 15
-  evict-header-short h = too-short (ap (λ (b : Bool). b || (ltb (length ws) 512 || ltb (length answer) 1)) (lt-ltb _ _ h))
+  pub evict-words-short : wordsShort head ws ≡ true → EvictCalled head B v S ws answer S ws answer 15
+  evict-words-short e = too-short (short-is _ _ e refl)
 
-  pub evict-records-short : 8 ≤ length head → length ws < 512 → EvictCalled head B v S ws answer S ws answer 15
-  evict-records-short l h = too-short (short-is _ _ _ (le-ltb _ _ l) (lt-ltb _ _ h) refl)
-
-  pub evict-answer-short : 8 ≤ length head → 512 ≤ length ws → length answer < 1 → EvictCalled head B v S ws answer S ws answer 15
-  evict-answer-short l k h = too-short (short-is _ _ _ (le-ltb _ _ l) (le-ltb _ _ k) (lt-ltb _ _ h))
+  pub evict-answer-short : wordsShort head ws ≡ false → length answer < 1 → EvictCalled head B v S ws answer S ws answer 15
+  evict-answer-short e h = too-short (short-is _ _ e (lt-ltb _ _ h))
 
   module _
-      (l : 8 ≤ length head) (k : 512 ≤ length ws) (o : 1 ≤ length answer) (rs rs′ : List Assignment) (S′ : StateBuffers) (m taken : ℕ) (header : JobHeader) (v′ : ℕ)
+      (long : wordsShort head ws ≡ false) (o : 1 ≤ length answer) (rs′ : List Assignment) (S′ : StateBuffers) (m taken : ℕ) (header : JobHeader) (v′ : ℕ)
       (known : header ≡ headerIn head) (ev : v′ ≡ cut 0xFFFF v)
-      (read : rs ≡ recordsIn ws) (d : calling.Evicted header B v′ S rs S′ rs′ m taken) where
-    enough : evictShort head ws answer ≡ false
-    enough = short-is _ _ _ (le-ltb _ _ l) (le-ltb _ _ k) (le-ltb _ _ o)
+      (d : calling.Evicted header B v′ S (recordsIn ws) S′ rs′ m taken) where
+    abbrev held : List Assignment
+    held = recordsIn ws
 
-    evict-called : calling.Called (headerIn head) B sought S rs S′ rs′ m
+    enough : evictShort head ws answer ≡ false
+    enough = short-is _ _ long (le-ltb _ _ o)
+
+    evict-called : calling.Called (headerIn head) B sought S held S′ rs′ m
     evict-called =
-        recalled (headerIn head) B (evicting (sizesOf B S) (cut 0xFFFF v)) sought S rs S′ rs′ m
+        recalled (headerIn head) B (evicting (sizesOf B S) (cut 0xFFFF v)) sought S held S′ rs′ m
         (λ j s reach. same-evicting j s reach (sizesOf B S) v)
-        (subst (λ (x : JobHeader). calling.Called x B (evicting (sizesOf B S) (cut 0xFFFF v)) S rs S′ rs′ m) known
-        (subst (λ (x : ℕ). calling.Called header B (evicting (sizesOf B S) x) S rs S′ rs′ m) ev (d .called)))
+        (subst (λ (x : JobHeader). calling.Called x B (evicting (sizesOf B S) (cut 0xFFFF v)) S held S′ rs′ m) known
+        (subst (λ (x : ℕ). calling.Called header B (evicting (sizesOf B S) x) S held S′ rs′ m) ev (d .called)))
 
     pub evict-refused : (m ≡ 0 → ⊥) → EvictCalled head B v S ws answer S′ ws answer m
     evict-refused z =
         record {
-          called = call-refused _ head B sought S ws rs rs′ S′ m enough read evict-called z;
+          called = call-refused _ head B sought S ws held rs′ S′ m enough refl evict-called z;
           no-answer = λ n. refl;
           answered = λ j s t reach job h st e. absurd (z e);
         }
@@ -297,20 +292,17 @@ module _ (head : List ℕ) (B : JobSlices) (v : ℕ) (S : StateBuffers) (ws answ
     pub evict-done :
         m ≡ 0
         → (ws′ : List ℕ)
-        → ws′ ≡ sets ws 0 (map recordWord rs′)
-        → (AllPlain rs′ → 512 ≤ length ws → recordsIn ws′ ≡ rs′)
-        → length rs′ ≡ 512
+        → (drop 512 ws′ ≡ drop 512 ws) × (AllPlain rs′ → 512 ≤ length ws → recordsIn ws′ ≡ rs′)
         → (answer′ : List ℕ)
         → answer′ ≡ set answer 0 taken
         → EvictCalled head B v S ws answer S′ ws′ answer′ 0
-    evict-done z ws′ e back n answer′ ea =
+    evict-done z ws′ p answer′ ea =
         record {
-          called = call-done _ head B sought S ws rs rs′ S′ m enough read evict-called z ws′ e back n k;
+          called = call-done _ head B sought S ws held rs′ S′ m enough refl evict-called z ws′ (p .0) (λ q. p .1 q (long-both head ws long .1));
           no-answer = λ n. absurd (n refl);
           answered =
               λ j s t reach job h st y.
-              let st′ = subst (λ (x : List Assignment). StateStands j s t S x) (sym read) st in
-              let a = d .taken-away j s t reach job (known ∙ h) st′ in
+              let a = d .taken-away j s t reach job (known ∙ h) st in
               ea
               ∙ ap (set answer 0)
               (a

@@ -19,8 +19,8 @@ use Rattle.calls.specs.Calling.{sizesOf}
 use Rattle.calls.specs.StageLoading.{StageLoadParts, StageLoadDone}
 use Rattle.records.specs.Fields.{firstRecords}
 use Rattle.records.specs.Words.{recordWord}
-use Rattle.words.specs.Words.{headerWords}
-use Rattle.pezhkadu.specs.Loading.{loadShort, LoadParts, LoadCalled}
+use Rattle.words.specs.Words.{wordsShort, headerWords}
+use Rattle.pezhkadu.specs.Loading.{LoadParts, LoadCalled}
 
 abbrev isIs : JobLoaded → Bool
 isIs (Is h) = true
@@ -35,19 +35,10 @@ headerAs d (Is h) = h
 headerAs d (Refused n) = d
 
 module _ (bytes head ws : List ℕ) (B : JobSlices) (S : StateBuffers) where
-  too-short : loadShort head ws ≡ true → LoadCalled bytes head ws B S head ws B S 15
-  too-short e = record { parts = rw e (refl, refl, refl, refl, refl) }
+  pub load-short : wordsShort head ws ≡ true → LoadCalled bytes head ws B S head ws B S 15
+  load-short e = record { parts = rw e (refl, refl, refl, refl, refl) }
 
-  pub header-short : length head < 8 → LoadCalled bytes head ws B S head ws B S 15
-  header-short h = too-short (ap (λ (b : Bool). b || ltb (length ws) 512) (lt-ltb _ _ h))
-
-  pub records-short : 8 ≤ length head → length ws < 512 → LoadCalled bytes head ws B S head ws B S 15
-  records-short l h = too-short (ap (λ (b : Bool). b || ltb (length ws) 512) (le-ltb _ _ l) ∙ lt-ltb _ _ h)
-
-  module _ (l : 8 ≤ length head) (k : 512 ≤ length ws) (B′ : JobSlices) (S′ : StateBuffers) (r : JobLoaded) (d : StageLoadDone bytes B S B′ S′ r) where
-    long : loadShort head ws ≡ false
-    long = ap (λ (b : Bool). b || ltb (length ws) 512) (le-ltb _ _ l) ∙ le-ltb _ _ k
-
+  module _ (long : wordsShort head ws ≡ false) (B′ : JobSlices) (S′ : StateBuffers) (r : JobLoaded) (d : StageLoadDone bytes B S B′ S′ r) where
     pub load-refused : (m n : ℕ) → n ≡ m → r ≡ Refused m → LoadCalled bytes head ws B S head ws B′ S′ n
     load-refused k n q e = record { parts = rw long (go (load (sizesOf B S) bytes) (d .parts)) }
       where

@@ -35,7 +35,9 @@ use Rattle.calls.proofs.StageLoads.{just-loaded}
 use Rattle.records.specs.Words.{recordWord, recordIn, recordsIn}
 use Rattle.records.proofs.WordLaws.{first-word}
 use Rattle.words.specs.Words.{probeWords, headerWords, probeIn, headerIn}
-use Rattle.pezhkadu.specs.Loading.{loadShort, LoadParts, LoadCalled, JustLoaded}
+use Rattle.words.specs.Words.{wordsShort}
+use Rattle.pezhkadu.specs.Loading.{LoadParts, LoadCalled, JustLoaded}
+use Rattle.pezhkadu.proofs.CallLaws.{long-both}
 use Rattle.pezhkadu.proofs.CallLaws.{not-both}
 use Rattle.pezhkadu.proofs.RefusalNumbers.{not-zero}
 
@@ -109,19 +111,11 @@ stored-records-back ws l =
 
 -- ---- all of it
 
-long-both : (head ws : List ℕ) → loadShort head ws ≡ false → (8 ≤ length head) × (512 ≤ length ws)
-long-both head ws e = go (ltb (length head) 8) (ltb (length ws) 512) refl refl e
-  where
-    go : (a b : Bool) → ltb (length head) 8 ≡ a → ltb (length ws) 512 ≡ b → (a || b) ≡ false → (8 ≤ length head) × (512 ≤ length ws)
-    go true b ea eb f = absurd (not-both (sym f))
-    go false true ea eb f = absurd (not-both (sym f))
-    go false false ea eb f = (ltb-false (length head) 8 ea, ltb-false (length ws) 512 eb)
-
 -- a job that loads is left as calls ask for it
 pub loaded-stands :
     (bytes head ws : List ℕ) (B : JobSlices) (S : StateBuffers) (head′ ws′ : List ℕ) (B′ : JobSlices) (S′ : StateBuffers) (n : ℕ)
     → Bytes bytes
-    → loadShort head ws ≡ false
+    → wordsShort head ws ≡ false
     → (j : Job)
     → load (sizesOf B S) bytes ≡ loaded j
     → LoadCalled bytes head ws B S head′ ws′ B′ S′ n
@@ -154,16 +148,16 @@ pub answered-0 :
     → LoadCalled bytes head ws B S head′ ws′ B′ S′ n
     → n ≡ 0
     → JustLoaded head′ ws′ B′ S′
-answered-0 bytes head ws B S head′ ws′ B′ S′ n are-bytes d z = by-short (loadShort head ws) refl
+answered-0 bytes head ws B S head′ ws′ B′ S′ n are-bytes d z = by-short (wordsShort head ws) refl
   where
-    by-load : loadShort head ws ≡ false → (o : Loaded) → load (sizesOf B S) bytes ≡ o → JustLoaded head′ ws′ B′ S′
+    by-load : wordsShort head ws ≡ false → (o : Loaded) → load (sizesOf B S) bytes ≡ o → JustLoaded head′ ws′ B′ S′
     by-load long (notLoaded m) q =
         let e = ap (λ (b : Bool). cond b (notLoaded 15) (load (sizesOf B S) bytes)) long ∙ q in
         let p = subst (LoadParts head ws B S head′ ws′ B′ S′ n) e (d .parts) in
         absurd (not-zero (sizesOf B S) bytes m q (sym (p .0) ∙ z))
     by-load long (loaded j) q = loaded-stands bytes head ws B S head′ ws′ B′ S′ n are-bytes long j q d
 
-    by-short : (b : Bool) → loadShort head ws ≡ b → JustLoaded head′ ws′ B′ S′
+    by-short : (b : Bool) → wordsShort head ws ≡ b → JustLoaded head′ ws′ B′ S′
     by-short true e =
         let e′ = ap (λ (b : Bool). cond b (notLoaded 15) (load (sizesOf B S) bytes)) e in
         let p = subst (LoadParts head ws B S head′ ws′ B′ S′ n) e′ (d .parts) in

@@ -18,31 +18,27 @@ use Rattle.listing.specs.declared.Step.the-variants.{Line, Refused, End}
 use Rattle.lines.specs.LineTexts.{Lent}
 use Rattle.listing.specs.Walk.{Found, noMore, aLine, lineLimit, found, stepOf, printedOn, AnsweredIfLong, numberAt}
 use Rattle.records.specs.Words.{recordIn}
-use Rattle.words.specs.Words.{headerIn, endingIn, placeIn, placeNumber, standingNumber}
+use Rattle.words.specs.Words.{wordsShort, headerIn, endingIn, placeIn, placeNumber, standingNumber}
 use Rattle.pezhkadu.specs.Reading.{standingAnswer, listingIn, nextWords, stepWords, stepRefusal, lineShort, foundIn, LineCalled}
 
 -- ---- how a virtual register stands
 
 module _ (head ws : List ℕ) (v : ℕ) where
-  pub standing-header-short : length head < 8 → 15 ≡ standingAnswer head ws v
+  pub standing-short : wordsShort head ws ≡ true → 15 ≡ standingAnswer head ws v
   unfolding standingAnswer
-  standing-header-short h = rw (lt-ltb _ _ h) refl
+  standing-short e = rw e refl
 
-  pub standing-records-short : 8 ≤ length head → length ws < 512 → 15 ≡ standingAnswer head ws v
-  unfolding standingAnswer
-  standing-records-short l h = rw (le-ltb _ _ l, lt-ltb _ _ h) refl
-
-  module _ (l : 8 ≤ length head) (k : 512 ≤ length ws) (h : JobHeader) (n : ℕ) (known : h ≡ headerIn head) (is : n ≡ h .«virt_regs») where
+  module _ (long : wordsShort head ws ≡ false) (h : JobHeader) (n : ℕ) (known : h ≡ headerIn head) (is : n ≡ h .«virt_regs») where
     count-is : n ≡ headerIn head .«virt_regs»
     count-is = is ∙ ap (λ (x : JobHeader). x .«virt_regs») known
 
     pub standing-unknown : n ≤ v → 8 ≡ standingAnswer head ws v
     unfolding standingAnswer
-    standing-unknown u = rw (le-ltb _ _ l, le-ltb _ _ k, ← count-is, le-leb _ _ u) refl
+    standing-unknown u = rw (long, ← count-is, le-leb _ _ u) refl
 
     pub standing-told : v < n → (x : ℕ) (a : Assignment) (m : ℕ) → x ≡ getD ws v 0 → a ≡ recordIn x → m ≡ standingNumber a → m ≡ standingAnswer head ws v
     unfolding standingAnswer
-    standing-told u x a m ex ea em = em ∙ ap standingNumber (ea ∙ ap recordIn ex) ∙ rw (le-ltb _ _ l, le-ltb _ _ k, ← count-is, lt-leb _ _ u) refl
+    standing-told u x a m ex ea em = em ∙ ap standingNumber (ea ∙ ap recordIn ex) ∙ rw (long, ← count-is, lt-leb _ _ u) refl
 
 -- ---- a line
 
@@ -88,28 +84,24 @@ words-are c (aLine text p) = refl
 
 module _ (head ws answer : List ℕ) (position : ℕ) (l : Lent) (line next : List ℕ) where
   short-is :
-      (a b c d : Bool) → ltb (length head) 8 ≡ a → ltb (length ws) 512 ≡ b → ltb (length answer) 2 ≡ c → ltb (length next) 2 ≡ d
-      → lineShort head ws answer next line ≡ (a || (b || (c || (d || ltb (length line) lineLimit))))
-  short-is a b c d ea eb ec ed = rw (ea, eb, ec, ed) refl
+      (a b c : Bool) → wordsShort head ws ≡ a → ltb (length answer) 2 ≡ b → ltb (length next) 2 ≡ c
+      → lineShort head ws answer next line ≡ (a || (b || (c || ltb (length line) lineLimit)))
+  short-is a b c ea eb ec = rw (ea, eb, ec) refl
 
   too-short : lineShort head ws answer next line ≡ true → LineCalled head ws answer position l line next line next 15
   too-short e = record { answer-is = rw e refl; line-is = rw e refl; next-is = rw e refl }
 
-  pub line-header-short : length head < 8 → LineCalled head ws answer position l line next line next 15
-  line-header-short h = too-short (short-is _ _ _ _ (lt-ltb _ _ h) refl refl refl)
+  pub line-words-short : wordsShort head ws ≡ true → LineCalled head ws answer position l line next line next 15
+  line-words-short h = too-short (short-is _ _ _ h refl refl)
 
-  pub line-records-short : 8 ≤ length head → length ws < 512 → LineCalled head ws answer position l line next line next 15
-  line-records-short a h = too-short (short-is _ _ _ _ (le-ltb _ _ a) (lt-ltb _ _ h) refl refl)
+  pub line-answer-short : wordsShort head ws ≡ false → length answer < 2 → LineCalled head ws answer position l line next line next 15
+  line-answer-short a h = too-short (short-is _ _ _ a (lt-ltb _ _ h) refl)
 
-  pub line-answer-short : 8 ≤ length head → 512 ≤ length ws → length answer < 2 → LineCalled head ws answer position l line next line next 15
-  line-answer-short a b h = too-short (short-is _ _ _ _ (le-ltb _ _ a) (le-ltb _ _ b) (lt-ltb _ _ h) refl)
-
-  pub line-next-short : 8 ≤ length head → 512 ≤ length ws → 2 ≤ length answer → length next < 2 → LineCalled head ws answer position l line next line next 15
-  line-next-short a b c h = too-short (short-is _ _ _ _ (le-ltb _ _ a) (le-ltb _ _ b) (le-ltb _ _ c) (lt-ltb _ _ h))
+  pub line-next-short : wordsShort head ws ≡ false → 2 ≤ length answer → length next < 2 → LineCalled head ws answer position l line next line next 15
+  line-next-short a c h = too-short (short-is _ _ _ a (le-ltb _ _ c) (lt-ltb _ _ h))
 
   pub line-called :
-      8 ≤ length head
-      → 512 ≤ length ws
+      wordsShort head ws ≡ false
       → 2 ≤ length answer
       → 2 ≤ length next
       → (c : Listing) (k x : ℕ) (a : Assignment) (line′ next′ : List ℕ) (step : Step) (n : ℕ)
@@ -120,7 +112,7 @@ module _ (head ws answer : List ℕ) (position : ℕ) (l : Lent) (line next : Li
       → AnsweredIfLong c (found c a l) line line′ step
       → (n ≡ stepRefusal step) × (next′ ≡ sets next 0 (stepWords step))
       → LineCalled head ws answer position l line next line′ next′ n
-  line-called h₁ h₂ h₃ h₄ c k x a line′ next′ step n ec ek ex ea an st = go (ltb (length line) lineLimit) refl
+  line-called h₁ h₂ h₃ c k x a line′ next′ step n ec ek ex ea an st = go (ltb (length line) lineLimit) refl
     where
       same : found c a l ≡ foundIn head ws answer position l
       same =
@@ -128,7 +120,7 @@ module _ (head ws answer : List ℕ) (position : ℕ) (l : Lent) (line next : Li
           ∙ ap (λ (y : Listing). found y (recordIn (getD ws (numberAt (placeIn position)) 0)) l) ec
 
       short : lineShort head ws answer next line ≡ ltb (length line) lineLimit
-      short = short-is false false false false (le-ltb _ _ h₁) (le-ltb _ _ h₂) (le-ltb _ _ h₃) (le-ltb _ _ h₄)
+      short = short-is false false false h₁ (le-ltb _ _ h₂) (le-ltb _ _ h₃)
 
       printed : line′ ≡ cond (lineShort head ws answer next line) line (printedOn line (foundIn head ws answer position l))
       printed =

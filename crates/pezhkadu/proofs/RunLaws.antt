@@ -2,20 +2,29 @@
 use Prim.Native.Nat.{ℕ, _≤_, _<_}
 use native.Mathlib.Omega.{arith}
 use mathlib.Core.Path.{_≡_, refl, sym, ap, _∙_, subst}
-use mathlib.Core.List.{List, map}
+use mathlib.Core.List.{List, _++_, map}
 use mathlib.Core.Bool.{Bool, true, false, _||_}
 use lib.Dec.{ltb}
-use lib.ListN.{length, set}
-use lib.Seq.{sets}
+use lib.ListN.{length, set, take, drop, length-map, take-append-drop}
+use lib.Seq.{sets, sets-eq, drop-at, take-at}
 use borrow.Author.Tests.{lt-ltb, le-ltb}
-use Rattle.job.specs.Layout.{JobSlices}
+use Rattle.reg_matrix.specs.Refusals.{refusal, shortBuffer}
+use Rattle.job.specs.Model.{Job}
+use Rattle.job.specs.Layout.{JobSlices, listsIn}
 use Rattle.allocator.specs.declared.Assignment.{Assignment}
-use Rattle.allocator.specs.Layout.{StateBuffers}
-use Rattle.calls.specs.Calling as calling
-use Rattle.records.specs.Words.{recordWord, recordsIn, AllPlain}
-use Rattle.words.specs.Words.{headerIn}
-use Rattle.pezhkadu.specs.Calling.{RunCalled, runShort}
-use Rattle.pezhkadu.proofs.CallLaws.{own-short, call-refused, call-done}
+use Rattle.allocator.specs.State.{State, records}
+use Rattle.allocator.specs.Layout.{StateBuffers, stageLimits}
+use Rattle.allocator.specs.Calls.{refusalOf, carriedOut, after, answerOf}
+use Rattle.allocator.specs.Reached.{Reached}
+use Rattle.records.specs.Words.{recordWord, recordsIn, AllPlain, WordsOf}
+use Rattle.records.proofs.WordLaws.{in-front, in-length}
+use Rattle.records.proofs.PlainRecords.{plain-records}
+use Rattle.context.specs.Standing.{JobStands}
+use Rattle.run_loop.specs.declared.RunEnd.{RunEnd}
+use Rattle.run_loop.specs.Running.{endingNumber, LentTo, RunMade}
+use Rattle.calls.specs.Calling.{sizesOf, StateStands}
+use Rattle.pezhkadu.specs.Calling.{Called, RunCalled, runShort}
+use Rattle.pezhkadu.proofs.CallLaws.{not-both, tail-kept, own-short}
 
 module _ (B : JobSlices) (budget : ℕ) (S : StateBuffers) (ws answer : List ℕ) where
   too-short : runShort ws answer ≡ true → RunCalled B budget S ws answer S ws answer 15
@@ -28,35 +37,72 @@ module _ (B : JobSlices) (budget : ℕ) (S : StateBuffers) (ws answer : List ℕ
   pub answer-short : 512 ≤ length ws → length answer < 2 → RunCalled B budget S ws answer S ws answer 15
   answer-short l h = too-short (ap (λ (b : Bool). b || ltb (length answer) 2) (le-ltb _ _ l) ∙ lt-ltb _ _ h)
 
-  module _
-      (l : 512 ≤ length ws) (k : 2 ≤ length answer) (rs rs′ : List Assignment) (S′ : StateBuffers) (m ending dequeues : ℕ)
-      (read : rs ≡ recordsIn ws) (d : calling.RunCalled B budget S rs S′ rs′ m ending dequeues) where
+  module _ (l : 512 ≤ length ws) (k : 2 ≤ length answer) where
     long : runShort ws answer ≡ false
     long = ap (λ (b : Bool). b || ltb (length answer) 2) (le-ltb _ _ l) ∙ le-ltb _ _ k
 
-    pub run-refused : (m ≡ 0 → ⊥) → RunCalled B budget S ws answer S′ ws answer m
-    run-refused z =
+    pub run-short : shortBuffer stageLimits (sizesOf B S) ≡ true → RunCalled B budget S ws answer S ws answer 15
+    unfolding after answerOf refusalOf refusal
+    run-short e =
         record {
-          called = λ head. call-refused _ head B _ S ws rs rs′ S′ m long read (d .called (headerIn head)) z;
+          called =
+              λ head.
+              record {
+                short = λ s. refl;
+                unchanged = λ n. (refl, refl);
+                behind = refl;
+                reached = λ f j s t reach job h st. (rw e refl, rw e st);
+              };
           no-answer = λ n. refl;
-          answered = λ j s t reach job st e. absurd (z e);
+          answered = λ j s t reach job st z. absurd (omega (arith, z));
         }
 
-    pub run-done :
-        m ≡ 0
-        → (ws′ : List ℕ)
-        → ws′ ≡ sets ws 0 (map recordWord rs′)
-        → (AllPlain rs′ → 512 ≤ length ws → recordsIn ws′ ≡ rs′)
-        → length rs′ ≡ 512
-        → (answer₁ answer₂ : List ℕ)
-        → answer₁ ≡ set answer 0 ending
-        → answer₂ ≡ set answer₁ 1 dequeues
-        → RunCalled B budget S ws answer S′ ws′ answer₂ 0
-    run-done z ws′ e back n answer₁ answer₂ e₁ e₂ =
-        record {
-          called = λ head. call-done _ head B _ S ws rs rs′ S′ m long read (d .called (headerIn head)) z ws′ e back n l;
-          no-answer = λ n. absurd (n refl);
-          answered = λ j s t reach job st y.
-              let a = d .ended-so j s t reach job (subst (λ (x : List Assignment). calling.StateStands j s t S x) (sym read) st) z in
-              rw (e₂, e₁, a .0, a .1) refl;
-        }
+    module _ (enough : shortBuffer stageLimits (sizesOf B S) ≡ false) (ws₁ : List ℕ) (renewed : ws₁ ≡ sets ws 0 (map recordWord (recordsIn ws)))
+        (back : AllPlain (recordsIn ws) → 512 ≤ length ws → recordsIn ws₁ ≡ recordsIn ws)
+        (W′ : List ℕ) (S′ : StateBuffers) (r : RunEnd) (d : RunMade budget (listsIn B) S (take 512 ws₁) S′ W′ r) (size : length W′ ≡ 512) where
+      front : take 512 ws₁ ≡ map recordWord (recordsIn ws)
+      front =
+          let n : length (map recordWord (recordsIn ws)) ≡ 512 = length-map (recordsIn ws) recordWord ∙ in-length ws in
+          ap (take 512) (renewed ∙ sets-eq (map recordWord (recordsIn ws)) ws 0 (omega (arith, n))) ∙ take-at (map recordWord (recordsIn ws)) _ 512 n
+
+      lent-so : (j : Job) (s : State) (t : StateBuffers) → Reached j s → JobStands j (listsIn B) → StateStands j s t S (recordsIn ws) → LentTo j s t (listsIn B) S (take 512 ws₁)
+      lent-so j s t reach job st =
+          record {
+            reached = reach;
+            job-stands = job;
+            stands = st .stands;
+            records-are =
+                record {
+                  words-are = front ∙ ap (map recordWord) (st .records-are);
+                  read-so =
+                      sym (in-front (take 512 ws₁) (drop 512 ws₁) (ap length front ∙ length-map (recordsIn ws) recordWord ∙ in-length ws))
+                      ∙ ap recordsIn (take-append-drop 512 ws₁) ∙ back (rw (st .records-are) (plain-records j s reach)) l ∙ st .records-are;
+                };
+          }
+
+      pub run-done :
+          (ws′ answer₁ answer₂ : List ℕ) (ending : ℕ)
+          → ws′ ≡ W′ ++ drop 512 ws₁
+          → ending ≡ endingNumber (r .ending)
+          → answer₁ ≡ set answer 0 ending
+          → answer₂ ≡ set answer₁ 1 (r .dequeues)
+          → RunCalled B budget S ws answer S′ ws′ answer₂ 0
+      unfolding after answerOf refusalOf refusal carriedOut
+      run-done ws′ answer₁ answer₂ ending e pe e₁ e₂ =
+          record {
+            called =
+                λ head.
+                record {
+                  short = λ s. absurd (not-both (sym (ap (λ (b : Bool). b || shortBuffer stageLimits (sizesOf B S)) long ∙ enough) ∙ s));
+                  unchanged = λ n. absurd (n refl);
+                  behind = ap (drop 512) e ∙ drop-at W′ (drop 512 ws₁) 512 size ∙ ap (drop 512) renewed ∙ tail-kept (recordsIn ws) ws (in-length ws) l;
+                  reached =
+                      λ f j s t reach job h st.
+                      let a = d .made j s t (lent-so j s t reach job st) in
+                      (rw enough refl, rw enough (record { stands = a .0; records-are = ap recordsIn e ∙ in-front W′ (drop 512 ws₁) size ∙ a .1 .read-so }));
+                };
+            no-answer = λ n. absurd (n refl);
+            answered = λ j s t reach job st y.
+                let a = d .made j s t (lent-so j s t reach job st) in
+                rw (e₂, e₁, pe, a .2, a .3) refl;
+          }

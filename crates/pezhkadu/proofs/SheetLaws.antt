@@ -34,7 +34,7 @@ use Rattle.listing.proofs.SheetLaws.{Laid, together, reached-sheet}
 use Rattle.records.specs.Words.{recordIn, recordsIn}
 use Rattle.records.proofs.WordLaws.{record-in}
 use Rattle.words.specs.Words.{headerIn, endingIn, placeNumber, placeIn, standingNumber}
-use Rattle.pezhkadu.specs.Calling.{assignShort}
+use Rattle.words.specs.Words.{wordsShort}
 use Rattle.pezhkadu.specs.Reading.{standingAnswer, listingIn, foundIn, linesAt, linesAfter}
 use Rattle.words.proofs.NumberLaws.{at-virt-reg, at-entry}
 use Rattle.pezhkadu.proofs.ReadLaws.{place-is}
@@ -51,7 +51,7 @@ pub standing-is :
     → Reached j s
     → headerIn head ≡ headerOf j
     → recordsIn ws ≡ records s
-    → assignShort head ws ≡ false
+    → wordsShort head ws ≡ false
     → v < length (j .virtRegs)
     → standingAnswer head ws v ≡ standingNumber (recordOf s v)
 unfolding standingAnswer headerOf

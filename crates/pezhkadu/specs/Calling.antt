@@ -18,11 +18,7 @@ use Rattle.context.specs.Standing.{JobStands}
 use Rattle.run_loop.specs.Running.{endingNumber}
 use Rattle.calls.specs.Calling.{sizesOf, refusalNumber, valueNumber, StateStands}
 use Rattle.records.specs.Words.{recordsIn}
-use Rattle.words.specs.Words.{headerLimit, headerIn}
-
--- layout: the words that the records take
-abbrev pub recordsLimit : ℕ
-recordsLimit = 512
+use Rattle.words.specs.Words.{recordsLimit, wordsShort, headerIn}
 
 -- A call c that answered n, from S and the words ws to S′ and ws′; `own` says whether one of the words that only firmware lends is short. Of any
 -- content: a short slice is refused with 15, what is refused changes nothing, and the tail of the words stays. On a state that calls reach and that
@@ -61,13 +57,9 @@ pub record RunCalled (B : JobSlices) (budget : ℕ) (S : StateBuffers) (ws answe
 
 -- ---- direct calls
 
--- the header or the records are short
-abbrev pub assignShort : List ℕ → List ℕ → Bool
-assignShort head ws = ltb (length head) headerLimit || ltb (length ws) recordsLimit
-
--- or the answer's one word is missing
+-- the header or the records are short, or the answer's one word is missing
 abbrev pub evictShort : List ℕ → List ℕ → List ℕ → Bool
-evictShort head ws answer = ltb (length head) headerLimit || (ltb (length ws) recordsLimit || ltb (length answer) 1)
+evictShort head ws answer = wordsShort head ws || ltb (length answer) 1
 
 -- a direct eviction of v, which answered the register that it held too. Refused, the answer's word stays as it was
 pub record EvictCalled (head : List ℕ) (B : JobSlices) (v : ℕ) (S : StateBuffers) (ws answer : List ℕ) (S′ : StateBuffers) (ws′ answer′ : List ℕ) (n : ℕ) : Type 0 where

@@ -2,9 +2,7 @@
 use Prim.Native.Nat.{ℕ}
 use mathlib.Core.Path.{_≡_}
 use mathlib.Core.List.{List, map}
-use mathlib.Core.Bool.{Bool, cond, _||_}
-use lib.Dec.{ltb}
-use lib.ListN.{length}
+use mathlib.Core.Bool.{cond}
 use lib.Seq.{sets}
 use Rattle.job.specs.Model.{Job}
 use Rattle.job.specs.Load.{Loaded, notLoaded, loaded}
@@ -18,12 +16,7 @@ use Rattle.calls.specs.Calling.{sizesOf, StateStands}
 use Rattle.calls.specs.StageLoading.{laterState, laterJob}
 use Rattle.records.specs.Fields.{firstRecords}
 use Rattle.records.specs.Words.{recordWord, recordsIn}
-use Rattle.words.specs.Words.{headerLimit, headerWords, headerIn}
-use Rattle.pezhkadu.specs.Calling.{recordsLimit}
-
--- the words of the header or of the records are short
-abbrev pub loadShort : List ℕ → List ℕ → Bool
-loadShort head ws = ltb (length head) headerLimit || ltb (length ws) recordsLimit
+use Rattle.words.specs.Words.{headerWords, headerIn, wordsShort}
 
 -- a refusal leaves all as it was; else the header, the first records, the job and the fresh state stand there, and the tail of every longer slice
 abbrev pub LoadParts : List ℕ → List ℕ → JobSlices → StateBuffers → List ℕ → List ℕ → JobSlices → StateBuffers → ℕ → Loaded → Type 0
@@ -37,7 +30,7 @@ LoadParts head ws B S head′ ws′ B′ S′ n (loaded j) =
 
 -- loading the bytes answers n and leaves these
 pub record LoadCalled (bytes head ws : List ℕ) (B : JobSlices) (S : StateBuffers) (head′ ws′ : List ℕ) (B′ : JobSlices) (S′ : StateBuffers) (n : ℕ) : Type 0 where
-  pub parts : LoadParts head ws B S head′ ws′ B′ S′ n (cond (loadShort head ws) (notLoaded 15) (load (sizesOf B S) bytes))
+  pub parts : LoadParts head ws B S head′ ws′ B′ S′ n (cond (wordsShort head ws) (notLoaded 15) (load (sizesOf B S) bytes))
 
 -- what every call asks of what is lent, as a load leaves it: so a load, and then any calls, each on what the last one left
 pub record JustLoaded (head ws : List ℕ) (B : JobSlices) (S : StateBuffers) : Type 0 where

@@ -13,13 +13,12 @@ use Rattle.listing.specs.declared.Step.the-variants.{Line, Refused, End}
 use Rattle.lines.specs.LineTexts.{Lent}
 use Rattle.listing.specs.Walk.{Found, noMore, aLine, lineLimit, found, printedOn, numberAt, linesFrom}
 use Rattle.records.specs.Words.{recordIn, recordsIn}
-use Rattle.words.specs.Words.{headerLimit, headerIn, endingIn, placeIn, placeNumber, standingNumber}
-use Rattle.pezhkadu.specs.Calling.{recordsLimit, assignShort}
+use Rattle.words.specs.Words.{wordsShort, headerIn, endingIn, placeIn, placeNumber, standingNumber}
 
 -- 15 where a slice is short, 8 where v is no number, or how its record stands
 unfoldable pub standingAnswer : List ℕ → List ℕ → ℕ → ℕ
 standingAnswer head ws v =
-    cond (assignShort head ws) 15 (cond (leb (headerIn head .«virt_regs») v) 8 (standingNumber (recordIn (getD ws v 0))))
+    cond (wordsShort head ws) 15 (cond (leb (headerIn head .«virt_regs») v) 8 (standingNumber (recordIn (getD ws v 0))))
 
 -- the position in the sheet of a run that answered so
 unfoldable pub listingIn : List ℕ → List ℕ → ℕ → Listing
@@ -43,9 +42,7 @@ stepRefusal (Refused n) = n
 
 -- one of the slices is short
 abbrev pub lineShort : List ℕ → List ℕ → List ℕ → List ℕ → List ℕ → Bool
-lineShort head ws answer next line =
-    ltb (length head) headerLimit
-    || (ltb (length ws) recordsLimit || (ltb (length answer) 2 || (ltb (length next) 2 || ltb (length line) lineLimit)))
+lineShort head ws answer next line = wordsShort head ws || (ltb (length answer) 2 || (ltb (length next) 2 || ltb (length line) lineLimit))
 
 -- what the position finds: a line, or none
 abbrev pub foundIn : List ℕ → List ℕ → List ℕ → ℕ → Lent → Found

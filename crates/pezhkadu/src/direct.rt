@@ -4,11 +4,15 @@ ghost use Rattle.job.specs.Layout.{slices};
 ghost use Rattle.run_loop.specs.Running.{lentState};
 ghost use Rattle.allocator.specs.Calls.{placing};
 ghost use Rattle.calls.specs.Calling.{sizesOf};
-ghost use Rattle.pezhkadu.specs.Calling.{Called, assignShort, EvictCalled};
+ghost use Rattle.words.specs.Words.{wordsShort};
+ghost use Rattle.pezhkadu.specs.Calling.{Called, EvictCalled};
+use calls::direct::Eviction;
+use calls::direct::Placement;
 use lent::put;
-use records::words::read;
-use records::words::store;
+use records::words::put_record;
+use records::words::record_at;
 use words::header::header_of;
+use words::header::short_words;
 use words::numbers::cut8;
 use words::numbers::cut16;
 use words::numbers::cut32;
@@ -33,38 +37,23 @@ pub extern "C" fn pezhkadu_assign(
     queue: &mut [u64],
     last: &mut [u8],
 ) -> u64
-    ensures { λ r. ⌜ Called (assignShort (now (header .entry)) (now (records .entry))) (now (header .entry)) (slices (now (j64 .entry)) (now (j32 .entry)) (now (j16 .entry)) (now (j8 .entry)) (now (jf .entry))) (placing (sizesOf (slices (now (j64 .entry)) (now (j32 .entry)) (now (j16 .entry)) (now (j8 .entry)) (now (jf .entry))) (lentState (now (ends .entry)) (now (rests .entry)) (now (queue .entry)) (now (last .entry)))) v reg (ofBits binary32 weight)) (lentState (now (ends .entry)) (now (rests .entry)) (now (queue .entry)) (now (last .entry))) (now (records .entry)) (lentState (now (ends .exit)) (now (rests .exit)) (now (queue .exit)) (now (last .exit))) (now (records .exit)) r ⌝ }
+    ensures { λ r. ⌜ Called (wordsShort (now (header .entry)) (now (records .entry))) (now (header .entry)) (slices (now (j64 .entry)) (now (j32 .entry)) (now (j16 .entry)) (now (j8 .entry)) (now (jf .entry))) (placing (sizesOf (slices (now (j64 .entry)) (now (j32 .entry)) (now (j16 .entry)) (now (j8 .entry)) (now (jf .entry))) (lentState (now (ends .entry)) (now (rests .entry)) (now (queue .entry)) (now (last .entry)))) v reg (ofBits binary32 weight)) (lentState (now (ends .entry)) (now (rests .entry)) (now (queue .entry)) (now (last .entry))) (now (records .entry)) (lentState (now (ends .exit)) (now (rests .exit)) (now (queue .exit)) (now (last .exit))) (now (records .exit)) r ⌝ }
 {
-    if header.len() < 8 {
+    if short_words(header, records) {
         return 15;
     }
-    if records.len() < 512 {
-        return 15;
-    }
-    let mut refusal = 0;
+    let v = cut16(v);
+    let reg = cut8(reg);
+    let weight = cut32(weight);
+    let asked = Placement { v, reg, weight };
     let known = header_of(header);
-    let before = read(records);
-    let after = calls::direct::assign(
-        before,
-        known,
-        cut16(v),
-        cut8(reg),
-        cut32(weight),
-        j64,
-        j32,
-        j16,
-        j8,
-        jf,
-        ends,
-        rests,
-        queue,
-        last,
-        &mut refusal,
-    );
-    if refusal != 0 {
-        return refusal;
+    let a = record_at(records, v);
+    let done = asked.place(a, known, j64, j32, j16, j8, jf, ends, rests, queue, last);
+    if done.refusal != 0 {
+        return done.refusal;
     }
-    store(after, records);
+    let after = done.record;
+    put_record(records, v, after);
     0
 }
 
@@ -88,39 +77,22 @@ pub extern "C" fn pezhkadu_evict(
 ) -> u64
     ensures { λ r. ⌜ EvictCalled (now (header .entry)) (slices (now (j64 .entry)) (now (j32 .entry)) (now (j16 .entry)) (now (j8 .entry)) (now (jf .entry))) v (lentState (now (ends .entry)) (now (rests .entry)) (now (queue .entry)) (now (last .entry))) (now (records .entry)) (now (answer .entry)) (lentState (now (ends .exit)) (now (rests .exit)) (now (queue .exit)) (now (last .entry))) (now (records .exit)) (now (answer .exit)) r ⌝ }
 {
-    if header.len() < 8 {
-        return 15;
-    }
-    if records.len() < 512 {
+    if short_words(header, records) {
         return 15;
     }
     if answer.len() < 1 {
         return 15;
     }
-    let mut refusal = 0;
-    let mut taken = 0;
+    let v = cut16(v);
+    let asked = Eviction { v };
     let known = header_of(header);
-    let before = read(records);
-    let after = calls::direct::evict(
-        before,
-        known,
-        cut16(v),
-        j64,
-        j32,
-        j16,
-        j8,
-        jf,
-        ends,
-        rests,
-        queue,
-        last,
-        &mut refusal,
-        &mut taken,
-    );
-    if refusal != 0 {
-        return refusal;
+    let a = record_at(records, v);
+    let done = asked.evict(a, known, j64, j32, j16, j8, jf, ends, rests, queue, last);
+    if done.refusal != 0 {
+        return done.refusal;
     }
-    store(after, records);
-    put(answer, 0, taken);
+    let after = done.record;
+    put_record(records, v, after);
+    put(answer, 0, done.reg);
     0
 }

@@ -6,6 +6,7 @@ use calls::loads::load;
 use loader::load::JobLoaded;
 use records::first_records;
 use records::words::store;
+use words::header::short_words;
 use words::header::store_header;
 use words::numbers::wide;
 
@@ -29,10 +30,7 @@ pub extern "C" fn pezhkadu_load(
 ) -> u64
     ensures { λ r. ⌜ LoadCalled (now (bytes .entry)) (now (header .entry)) (now (records .entry)) (slices (now (j64 .entry)) (now (j32 .entry)) (now (j16 .entry)) (now (j8 .entry)) (now (jf .entry))) (lentState (now (ends .entry)) (now (rests .entry)) (now (queue .entry)) (now (last .entry))) (now (header .exit)) (now (records .exit)) (slices (now (j64 .exit)) (now (j32 .exit)) (now (j16 .exit)) (now (j8 .exit)) (now (jf .exit))) (lentState (now (ends .exit)) (now (rests .exit)) (now (queue .exit)) (now (last .exit))) r ⌝ }
 {
-    if header.len() < 8 {
-        return 15;
-    }
-    if records.len() < 512 {
+    if short_words(header, records) {
         return 15;
     }
     match load(bytes, j64, j32, j16, j8, jf, ends, rests, queue, last) {

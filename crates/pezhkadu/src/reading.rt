@@ -9,6 +9,7 @@ use listing::Listing;
 use listing::Step;
 use records::words::record_of;
 use words::header::header_of;
+use words::header::short_words;
 use words::numbers::ending_of;
 use words::numbers::place_number;
 use words::numbers::place_of;
@@ -23,10 +24,7 @@ use words::numbers::wide16;
 pub extern "C" fn pezhkadu_standing(header: &[u64], records: &[u64], v: u64) -> u64
     ensures { λ r. ⌜ r ≡ standingAnswer (now (header .entry)) (now (records .entry)) v ⌝ }
 {
-    if header.len() < 8 {
-        return 15;
-    }
-    if records.len() < 512 {
+    if short_words(header, records) {
         return 15;
     }
     let known = header_of(header);
@@ -89,10 +87,7 @@ pub extern "C" fn pezhkadu_sheet_line(
 ) -> u64
     ensures { λ r. ⌜ LineCalled (now (header .entry)) (now (records .entry)) (now (answer .entry)) position (lent (now (maps .entry)) (now (ends .entry)) (now (rests .entry))) (now (line .entry)) (now (next .entry)) (now (line .exit)) (now (next .exit)) r ⌝ }
 {
-    if header.len() < 8 {
-        return 15;
-    }
-    if records.len() < 512 {
+    if short_words(header, records) {
         return 15;
     }
     if answer.len() < 2 {

@@ -1,10 +1,12 @@
-// A run over records that stand in lent words.
+// A run over records that stand in lent words, which it changes where they stand.
 ghost use Rattle.job.specs.Layout.{slices};
 ghost use Rattle.run_loop.specs.Running.{lentState};
 ghost use Rattle.pezhkadu.specs.Calling.{RunCalled};
+use call_tests::short_buffers;
+use calls::runs::ending_number;
 use lent::put;
-use records::words::read;
-use records::words::store;
+use records::words::renew;
+use run_loop::run_on;
 
 // Runs with a budget of so many dequeues. The answer takes the number of the run's word, 1 for done, 2 for spent and 3 for toomany, and how many
 // dequeues it made. Refused with 15 where a slice is short, and then nothing is changed.
@@ -31,31 +33,14 @@ pub extern "C" fn pezhkadu_run(
     if answer.len() < 2 {
         return 15;
     }
-    let mut refusal = 0;
-    let mut ending = 0;
-    let mut dequeues = 0;
-    let before = read(records);
-    let after = calls::runs::run(
-        before,
-        budget,
-        j64,
-        j32,
-        j16,
-        j8,
-        jf,
-        ends,
-        rests,
-        queue,
-        last,
-        &mut refusal,
-        &mut ending,
-        &mut dequeues,
-    );
-    if refusal != 0 {
-        return refusal;
+    if short_buffers(j64, j32, j16, j8, jf, ends, rests, queue, last) {
+        return 15;
     }
-    store(after, records);
-    put(answer, 0, ending);
-    put(answer, 1, dequeues);
+    renew(records);
+    let all = &mut records[..512];
+    let end = run_on(budget, j64, j32, j16, j8, jf, ends, rests, queue, last, all);
+    let word = end.ending;
+    put(answer, 0, ending_number(word));
+    put(answer, 1, end.dequeues);
     0
 }

@@ -3,11 +3,11 @@ use Prim.Native.Nat.{ℕ, zero, suc, _+_, _-_, _*_, _%_, _/_, _≤_, _<_}
 use native.Mathlib.Omega.{arith}
 use native.Mathlib.Numerals.{add-one}
 use mathlib.Core.Path.{_≡_, refl, sym, ap, subst, _∙_}
-use mathlib.Core.List.{List, [], _∷_, map}
+use mathlib.Core.List.{List, [], _∷_, _++_, map}
 use mathlib.Core.Bool.{Bool, true, false, not}
 use lib.Dec.{T, eqb}
-use lib.ListN.{length, getD, set, drop, length-map, length-set, List·getD-map}
-use lib.Seq.{sets, drop-cons, drop-length, getD-set-same, getD-set-other, ext-getD}
+use lib.ListN.{length, getD, set, drop, length-map, length-set, List·getD-map, List·getD-append, List·getD-eq-default}
+use lib.Seq.{sets, drop-cons, drop-length, drop-set-lt, set-out, getD-set-same, getD-set-other, ext-getD}
 use lib.Ieee.{Float, nan, inf, fin, binary32, ofBits, toBits, isNan, fits, ne, eq}
 use lib.Ieee.Compare.{differs-from-itself}
 use lib.Ieee.Bits.{ofBits-toBits, toBits-lt, nanBits-is}
@@ -103,6 +103,41 @@ pub record-in : (ws : List ℕ) (v : ℕ) → v < 512 → getD (recordsIn ws) v 
 unfolding recordsIn
 record-in ws v h = from-zero (λ v. recordIn (getD ws v 0)) Dead 512 v h
 
+pub in-length : (ws : List ℕ) → length (recordsIn ws) ≡ 512
+unfolding recordsIn
+in-length ws = length-map (count 0 512) (λ v. recordIn (getD ws v 0)) ∙ count-length 0 512
+
+-- one record more is stored
+pub records-set : (ws : List ℕ) → 512 ≤ length ws → (v x : ℕ) (a : Assignment) → recordIn x ≡ a → recordsIn (set ws v x) ≡ set (recordsIn ws) v a
+records-set ws m v x a b =
+    ext-getD Dead (recordsIn (set ws v x)) (set (recordsIn ws) v a) (in-length (set ws v x) ∙ sym (simp length-set (in-length ws)))
+    (λ i h. let k : i < 512 = omega (arith, in-length (set ws v x)) in record-in (set ws v x) i k ∙ at-place i k (eqb i v) refl)
+  where
+    at-place : (i : ℕ) → i < 512 → (t : Bool) → eqb i v ≡ t → recordIn (getD (set ws v x) i 0) ≡ getD (set (recordsIn ws) v a) i Dead
+    at-place i h true q =
+        let k : i ≡ v = eqb-true i v q in
+        rw (k, getD-set-same ws v x 0 (omega arith), getD-set-same (recordsIn ws) v a Dead (omega (arith, in-length ws))) b
+    at-place i h false q =
+        let k = eqb-false i v q in
+        rw (getD-set-other ws v i x 0 k, getD-set-other (recordsIn ws) v i a Dead k) (sym (record-in ws i h))
+
+-- a place past the records, and one inside
+pub record-past : (ws : List ℕ) (v : ℕ) → 512 ≤ v → Dead ≡ getD (recordsIn ws) v Dead
+record-past ws v h = let m : length (recordsIn ws) ≤ v = omega (arith, in-length ws) in sym (List·getD-eq-default (recordsIn ws) Dead {n = v} m)
+
+-- stored in its place, or past the records nowhere
+module _ (ws : List ℕ) (v : ℕ) (a : Assignment) where
+  pub put-inside :
+      (ws′ : List ℕ) (x : ℕ) → v < 512 → (PlainRecord a → recordIn x ≡ a) → ws′ ≡ set ws v x
+      → (drop 512 ws′ ≡ drop 512 ws) × (AllPlain (set (recordsIn ws) v a) → 512 ≤ length ws → recordsIn ws′ ≡ set (recordsIn ws) v a)
+  put-inside ws′ x h b e = (
+    rw e (drop-set-lt 512 ws v x h),
+    λ p m. rw e (records-set ws m v x a (b (subst PlainRecord (getD-set-same (recordsIn ws) v a Dead (omega (arith, in-length ws))) (p v)))),
+  )
+
+  pub put-past : 512 ≤ v → (drop 512 ws ≡ drop 512 ws) × (AllPlain (set (recordsIn ws) v a) → 512 ≤ length ws → recordsIn ws ≡ set (recordsIn ws) v a)
+  put-past h = (refl, λ p m. sym (set-out (recordsIn ws) v a (omega (arith, in-length ws))))
+
 -- the words of the records before i are stored: those from i on are the rest of the whole
 pub record Storing (rs : List Assignment) (ws₀ ws : List ℕ) (i : ℕ) : Type 0 where
   pub rest : sets ws₀ 0 (map recordWord rs) ≡ sets ws i (map recordWord (drop i rs))
@@ -147,13 +182,30 @@ module _ {rs : List Assignment} {ws₀ ws : List ℕ} {i : ℕ} (h : Storing rs 
 
   -- all are stored, and read again
   pub store-back : 512 ≤ i → AllPlain rs → 512 ≤ length ws₀ → recordsIn ws ≡ rs
-  unfolding recordsIn
   store-back l p m =
-      ext-getD Dead (map (λ v. recordIn (getD ws v 0)) (count 0 512)) rs (n ∙ sym (h .size))
-      (λ v b. let k : v < 512 = omega (arith, n) in from-zero (λ v. recordIn (getD ws v 0)) Dead 512 v k ∙ h .back p m v (omega arith))
-    where
-      n : length (map (λ v. recordIn (getD ws v 0)) (count 0 512)) ≡ 512
-      n = length-map (count 0 512) (λ v. recordIn (getD ws v 0)) ∙ count-length 0 512
+      ext-getD Dead (recordsIn ws) rs (in-length ws ∙ sym (h .size))
+      (λ v b. let k : v < 512 = omega (arith, in-length ws) in record-in ws v k ∙ h .back p m v (omega arith))
+
+-- ---- words stored anew as the words of their records
+
+-- those before i are, and the others are as they were
+pub record Renewing (ws₀ ws : List ℕ) (i : ℕ) : Type 0 where
+  pub stored : Storing (recordsIn ws₀) ws₀ ws i
+  pub others : (v : ℕ) → i ≤ v → getD ws v 0 ≡ getD ws₀ v 0
+
+pub renew-start : (ws : List ℕ) → Renewing ws ws 0
+renew-start ws = record { stored = store-start (recordsIn ws) ws (in-length ws); others = λ v h. refl }
+
+module _ {ws₀ ws : List ℕ} {i : ℕ} (h : Renewing ws₀ ws i) where
+  pub renew-more :
+      (ws′ : List ℕ) (x : ℕ) → i < 512 → (x ≡ recordWord (recordIn (getD ws i 0))) × (PlainRecord (recordIn (getD ws i 0)) → recordIn x ≡ recordIn (getD ws i 0))
+      → ws′ ≡ set ws i x → Renewing ws₀ ws′ (i + 1)
+  renew-more ws′ x l e e′ =
+      let same : recordIn (getD ws i 0) ≡ getD (recordsIn ws₀) i Dead = ap recordIn (h .others i (omega arith)) ∙ sym (record-in ws₀ i l) in
+      record {
+        stored = store-more (h .stored) ws′ x Dead l (rw (← same) e) e′;
+        others = λ v b. rw (e′, getD-set-other ws i v x 0 (λ q. omega (arith, q))) (h .others v (omega arith));
+      }
 
 -- ---- the words of records
 
@@ -166,6 +218,14 @@ map-set {B = B} f (y ∷ l) (suc i) x = ap (λ (t : List B). f y ∷ t) (map-set
 pub held-read : (ws : List ℕ) (v : ℕ) → v < 512 → getD (heldIn ws) v zeroWeight ≡ recordWeight (recordIn (getD ws v 0))
 unfolding heldIn
 held-read ws v h = List·getD-map recordWeight (recordsIn ws) v Dead ∙ ap recordWeight (record-in ws v h)
+
+-- the first 512 words are all that is read
+pub in-front : (ws behind : List ℕ) → length ws ≡ 512 → recordsIn (ws ++ behind) ≡ recordsIn ws
+in-front ws behind n =
+    ext-getD Dead (recordsIn (ws ++ behind)) (recordsIn ws) (in-length (ws ++ behind) ∙ sym (in-length ws))
+    (λ i h.
+    let k : i < 512 = omega (arith, in-length (ws ++ behind)) in
+    record-in (ws ++ behind) i k ∙ ap recordIn (List·getD-append ws behind 0 i (omega (arith, n))) ∙ sym (record-in ws i k))
 
 -- what was stored in as many words
 pub stored-words : (rs : List Assignment) (ws₀ ws : List ℕ) → length rs ≡ 512 → length ws₀ ≡ 512 → ws ≡ sets ws₀ 0 (map recordWord rs)
@@ -183,23 +243,9 @@ module _ {rs : List Assignment} {ws : List ℕ} (w : WordsOf rs ws) where
 
   -- one record more is stored
   pub word-set : length rs ≡ 512 → (v x : ℕ) (a : Assignment) → x ≡ recordWord a → recordIn x ≡ a → WordsOf (set rs v a) (set ws v x)
-  unfolding recordsIn
   word-set n v x a e b =
+      let long : length ws ≡ 512 = ap length (w .words-are) ∙ length-map rs recordWord ∙ n in
       record {
         words-are = rw (w .words-are, e) (map-set recordWord rs v a);
-        read-so =
-            ext-getD Dead (map (λ i. recordIn (getD (set ws v x) i 0)) (count 0 512)) (set rs v a) (size ∙ sym (simp length-set n))
-            (λ i h. let k : i < 512 = omega (arith, size) in from-zero (λ i. recordIn (getD (set ws v x) i 0)) Dead 512 i k ∙ at-place i k (eqb i v) refl);
+        read-so = records-set ws (omega (arith, long)) v x a b ∙ ap (λ (l : List Assignment). set l v a) (w .read-so);
       }
-    where
-      size : length (map (λ i. recordIn (getD (set ws v x) i 0)) (count 0 512)) ≡ 512
-      size = length-map (count 0 512) (λ i. recordIn (getD (set ws v x) i 0)) ∙ count-length 0 512
-
-      long : length ws ≡ 512
-      long = ap length (w .words-are) ∙ length-map rs recordWord ∙ n
-
-      at-place : (i : ℕ) → i < 512 → (t : Bool) → eqb i v ≡ t → recordIn (getD (set ws v x) i 0) ≡ getD (set rs v a) i Dead
-      at-place i h true q =
-          let k : i ≡ v = eqb-true i v q in
-          rw (k, getD-set-same ws v x 0 (omega (arith, long)), getD-set-same rs v a Dead (omega (arith, n))) b
-      at-place i h false q = let k = eqb-false i v q in rw (getD-set-other ws v i x 0 k, getD-set-other rs v i a Dead k) (word-read i h)

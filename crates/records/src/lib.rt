@@ -1,10 +1,9 @@
-// The records: what one says, and all 512 in lent numbers, by a word each or in three slices.
+// The records: what one says, and all 512 in lent numbers, a word each.
 ghost use mathlib.Core.Path.{_≡_};
 ghost use Rattle.records.specs.Fields.{firstRecords};
 use allocator::Assignment;
 
 pub mod assignment;
-pub mod slices;
 pub mod words;
 
 // The initial standing of all virtual registers: unassigned, with the flag off.

@@ -1,10 +1,12 @@
-// The records in lent numbers, a word for each, for callers that hold no `Assignment`: firmware, and the programs between a run and its sheet.
+// The records in lent numbers, a word for each: for callers that hold no `Assignment`, as firmware, and for runs, which lend them where 512 records would
+// be copied at every call.
 ghost use mathlib.Core.Path.{_≡_};
 ghost use mathlib.Core.List.{map};
 ghost use Prim.Native.Nat.{_≤_};
-ghost use lib.ListN.{length, getD};
+ghost use lib.ListN.{length, getD, set, drop};
 ghost use lib.Seq.{sets};
 ghost use Rattle.job.specs.Model.{Plain};
+ghost use Rattle.allocator.specs.declared.Assignment.the-variants.{Dead};
 ghost use Rattle.records.specs.Fields.{recordWeight};
 ghost use Rattle.records.specs.Words.{weightBits, weightIn, recordWord, recordIn, recordsIn, PlainRecord, AllPlain};
 use crate::assignment::held_weight;
@@ -54,6 +56,27 @@ pub fn record_of(word: u64) -> Assignment
     )
 }
 
+// The record of the number v. Past the 512 there is a dead one.
+pub fn record_at(words: &[u64], v: u16) -> Assignment
+    ensures { λ r. ⌜ r ≡ getD (recordsIn (now (words .entry))) v Dead ⌝ }
+{
+    let i = v as usize;
+    if 512 <= i {
+        return Assignment::Dead;
+    }
+    record_of(at(words, i))
+}
+
+// Stores the record of the number v. Past the 512 nothing is stored. Read again, it is the record, if all weights are no NaN and carry no sign.
+pub fn put_record(words: &mut [u64], v: u16, a: Assignment)
+    ensures { λ r. ⌜ (drop 512 (now (words .exit)) ≡ drop 512 (now (words .entry))) × (AllPlain (set (recordsIn (now (words .entry))) v a) → 512 ≤ length (now (words .entry)) → recordsIn (now (words .exit)) ≡ set (recordsIn (now (words .entry))) v a) ⌝ }
+{
+    let i = v as usize;
+    if i < 512 {
+        put(words, i, word_of(a));
+    }
+}
+
 // The weight with which the number i holds its register, or 0.
 pub fn held_at(words: &[u64], i: usize) -> f32
     ensures { λ r. ⌜ r ≡ recordWeight (recordIn (getD (now (words .entry)) i 0)) ⌝ }
@@ -88,4 +111,17 @@ pub fn read(words: &[u64]) -> [Assignment; 512]
         i += 1;
     }
     all
+}
+
+// Stores the first 512 words anew, each as the word of the record that it reads as. What is not there is not stored. Read again, they are the same
+// records, if all weights are no NaN and carry no sign.
+pub fn renew(words: &mut [u64])
+    ensures { λ r. ⌜ now (words .exit) ≡ sets (now (words .entry)) 0 (map recordWord (recordsIn (now (words .entry)))) ⌝ }
+    ensures { λ r. ⌜ (AllPlain (recordsIn (now (words .entry))) → 512 ≤ length (now (words .entry)) → recordsIn (now (words .exit)) ≡ recordsIn (now (words .entry))) ⌝ }
+{
+    let mut i: usize = 0;
+    while i < 512 {
+        put(words, i, word_of(record_of(at(words, i))));
+        i += 1;
+    }
 }

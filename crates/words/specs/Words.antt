@@ -2,9 +2,9 @@
 -- Assumes nothing.
 use Prim.Native.Nat.{ℕ, _+_, _-_, _%_, _^_}
 use mathlib.Core.List.{List, [], _∷_, _++_}
-use mathlib.Core.Bool.{cond}
+use mathlib.Core.Bool.{Bool, cond, _||_}
 use lib.Dec.{eqb, ltb}
-use lib.ListN.{getD}
+use lib.ListN.{length, getD}
 use Rattle.job.specs.declared.JobHeader.{JobHeader}
 use Rattle.job.specs.declared.Probe.{Probe}
 use Rattle.job.specs.declared.Probe.the-variants.{Over, NoProbe}
@@ -44,6 +44,16 @@ headerIn ws =
       probe = probeIn (getD ws 4 0) (getD ws 5 0) (getD ws 6 0);
       budget = getD ws 3 0 % 2 ^ 32;
     }
+
+-- ---- what only firmware lends
+
+-- layout: the words that the records take
+abbrev pub recordsLimit : ℕ
+recordsLimit = 512
+
+-- the header or the records are short
+abbrev pub wordsShort : List ℕ → List ℕ → Bool
+wordsShort head ws = ltb (length head) headerLimit || ltb (length ws) recordsLimit
 
 -- ---- numbers
 

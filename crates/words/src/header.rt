@@ -1,7 +1,7 @@
 // A job's header in words: the counts of registers, classes and virtual registers, the budget, whether there is a probe range, and its two points.
 ghost use mathlib.Core.Path.{_≡_};
 ghost use lib.Seq.{sets};
-ghost use Rattle.words.specs.Words.{headerWords, headerIn, probeIn, probeWords};
+ghost use Rattle.words.specs.Words.{headerWords, headerIn, probeIn, probeWords, wordsShort};
 use job::JobHeader;
 use job::Probe;
 use lent::at;
@@ -66,4 +66,14 @@ pub fn store_header(header: JobHeader, words: &mut [u64])
     let probe = header.probe;
     store_probe(probe, words);
     put(words, 7, 0);
+}
+
+// Whether the words of a header or those of the records are too few.
+pub fn short_words(header: &[u64], records: &[u64]) -> bool
+    ensures { λ r. ⌜ r ≡ wordsShort (now (header .entry)) (now (records .entry)) ⌝ }
+{
+    if header.len() < 8 {
+        return true;
+    }
+    records.len() < 512
 }

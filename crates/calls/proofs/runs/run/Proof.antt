@@ -30,8 +30,8 @@ slice-aggregate-store c = search needs
 store-requires : tie.Need-store-requires
 store-requires c κs = search needs
 
-slice-aggregate-run-on : tie.Need-slice-aggregate-run-on
-slice-aggregate-run-on c = search needs
+slice-aggregate-all : tie.Need-slice-aggregate-all
+slice-aggregate-all c = search needs
 
 run-on-requires : tie.Need-run-on-requires
 run-on-requires c κs = search needs
@@ -72,7 +72,7 @@ run-spec =
     returns
     slice-aggregate-store
     store-requires
-    slice-aggregate-run-on
+    slice-aggregate-all
     run-on-requires
     ending-number-requires
     slice-aggregate-read

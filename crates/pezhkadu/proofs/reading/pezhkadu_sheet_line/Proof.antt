@@ -1,19 +1,20 @@
 use borrow.Author.Needs.{needs}
-use Rattle.pezhkadu.proofs.ReadLaws.{line-header-short, line-records-short, line-answer-short, line-next-short, line-called}
+use mathlib.Core.Path.{sym, _∙_}
+use Rattle.pezhkadu.proofs.ReadLaws.{line-words-short, line-answer-short, line-next-short, line-called}
 use Rattle.pezhkadu.proofs.reading.pezhkadu_sheet_line.Statement.{statement}
 use Rattle.pezhkadu.proofs.reading.pezhkadu_sheet_line.Tie as tie
 
+short-words-requires : tie.Need-short-words-requires
+short-words-requires c κs = search needs
+
 returns : tie.Need-returns
-returns c = line-header-short _ _ _ _ _ _ _ (c .if1 .taken)
+returns c = line-words-short _ _ _ _ _ _ _ (sym (c .before .short-words .ensures) ∙ c .if1 .taken)
 
 returns-2 : tie.Need-returns-2
-returns-2 c = line-records-short _ _ _ _ _ _ _ (c .before .if1 .left) (c .if2 .taken)
+returns-2 c = line-answer-short _ _ _ _ _ _ _ (sym (c .before .before .short-words .ensures) ∙ c .before .if1 .left) (c .if2 .taken)
 
 returns-3 : tie.Need-returns-3
-returns-3 c = line-answer-short _ _ _ _ _ _ _ (c .before .before .if1 .left) (c .before .if2 .left) (c .if3 .taken)
-
-returns-4 : tie.Need-returns-4
-returns-4 c = line-next-short _ _ _ _ _ _ _ (c .before .before .before .if1 .left) (c .before .before .if2 .left) (c .before .if3 .left) (c .if4 .taken)
+returns-3 c = line-next-short _ _ _ _ _ _ _ (sym (c .before .before .before .short-words .ensures) ∙ c .before .before .if1 .left) (c .before .if2 .left) (c .if3 .taken)
 
 listing-of-requires : tie.Need-listing-of-requires
 listing-of-requires c κs = search needs
@@ -39,17 +40,17 @@ same-length c = search needs
 same-length-2 : tie.Need-same-length-2
 same-length-2 c = search needs
 
-returns-5 : tie.Need-returns-5
-returns-5 c = line-called _ _ _ _ _ _ _ (c .before .before .before .before .before .before .before .before .before .before .before .before .before .before .before .if1 .left) (c .before .before .before .before .before .before .before .before .before .before .before .before .before .before .if2 .left) (c .before .before .before .before .before .before .before .before .before .before .before .before .before .if3 .left) (c .before .before .before .before .before .before .before .before .before .before .before .before .if4 .left) _ _ _ _ _ _ _ _ (c .before .before .before .before .before .before .before .before .before .before .before .listing-of .ensures) (c .before .before .before .before .before .before .before .before .before .before .number .ensures .0) (c .before .before .before .before .before .before .before .before .before .at .ensures) (c .before .before .before .before .before .before .before .before .record-of .ensures) (c .before .before .before .before .before .before .next .ensures) (c .before .before .store-next .ensures)
+returns-4 : tie.Need-returns-4
+returns-4 c = line-called _ _ _ _ _ _ _ (sym (c .before .before .before .before .before .before .before .before .before .before .before .before .before .before .before .short-words .ensures) ∙ c .before .before .before .before .before .before .before .before .before .before .before .before .before .before .if1 .left) (c .before .before .before .before .before .before .before .before .before .before .before .before .before .if2 .left) (c .before .before .before .before .before .before .before .before .before .before .before .before .if3 .left) _ _ _ _ _ _ _ _ (c .before .before .before .before .before .before .before .before .before .before .before .listing-of .ensures) (c .before .before .before .before .before .before .before .before .before .before .number .ensures .0) (c .before .before .before .before .before .before .before .before .before .at .ensures) (c .before .before .before .before .before .before .before .before .record-of .ensures) (c .before .before .before .before .before .before .next .ensures) (c .before .before .store-next .ensures)
 
 pub pezhkadu-sheet-line-spec : {M : Type 1} → statement M
 pezhkadu-sheet-line-spec =
     tie.close
     (tie.spec
+    short-words-requires
     returns
     returns-2
     returns-3
-    returns-4
     listing-of-requires
     number-requires
     at-requires
@@ -58,4 +59,4 @@ pezhkadu-sheet-line-spec =
     store-next-requires
     same-length
     same-length-2
-    returns-5)
+    returns-4)
