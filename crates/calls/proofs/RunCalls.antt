@@ -79,5 +79,5 @@ module _ (B : JobSlices) (budget : ℕ) (S : StateBuffers) (rs : List Assignment
             stands = h .stands;
             records-are =
                 subst (λ (l : List Assignment). WordsOf l W) (h .records-are)
-                (stored-words rs W₀ W (ap length (h .records-are) ∙ records-length s) long st back (rw (h .records-are) (plain-records j s reach)));
+                (stored-words rs W₀ W (ap length (h .records-are) ∙ records-length s) (omega (arith, long)) st back (rw (h .records-are) (plain-records j s reach)) long);
           }

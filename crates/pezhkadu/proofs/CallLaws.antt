@@ -38,15 +38,6 @@ long-both head ws e = go (ltb (length head) 8) (ltb (length ws) 512) refl refl e
 
 -- ---- one call
 
--- what is stored in front leaves the tail
-pub tail-kept : (rs : List Assignment) (ws : List ℕ) → length rs ≡ 512 → 512 ≤ length ws → drop 512 (sets ws 0 (map recordWord rs)) ≡ drop 512 ws
-tail-kept rs ws n l =
-    let size : length (map recordWord rs) ≡ 512 = length-map rs recordWord ∙ n in
-    let size′ : 0 + length (map recordWord rs) ≡ 512 = omega (arith, size) in
-    ap (drop 512) (sets-eq (map recordWord rs) ws 0 (omega (arith, size)))
-    ∙ drop-at (map recordWord rs) (drop (0 + length (map recordWord rs)) ws) 512 size
-    ∙ ap (λ (k : ℕ). drop k ws) size′
-
 module _ (own : Bool) (head : List ℕ) (B : JobSlices) (c : Call) (S : StateBuffers) (ws : List ℕ) where
   -- firmware's own words are short
   pub own-short : own ≡ true → Called own head B c S ws S ws 15

@@ -5,26 +5,26 @@ use mathlib.Core.Path.{_≡_, refl, sym, ap, _∙_, subst}
 use mathlib.Core.List.{List, _++_, map}
 use mathlib.Core.Bool.{Bool, true, false, _||_}
 use lib.Dec.{ltb}
-use lib.ListN.{length, set, take, drop, length-map, take-append-drop}
-use lib.Seq.{sets, sets-eq, drop-at, take-at}
+use lib.ListN.{length, set, take, drop}
+use lib.Seq.{sets, drop-at}
 use borrow.Author.Tests.{lt-ltb, le-ltb}
 use Rattle.reg_matrix.specs.Refusals.{refusal, shortBuffer}
 use Rattle.job.specs.Model.{Job}
 use Rattle.job.specs.Layout.{JobSlices, listsIn}
 use Rattle.allocator.specs.declared.Assignment.{Assignment}
-use Rattle.allocator.specs.State.{State, records}
+use Rattle.allocator.specs.State.{State}
 use Rattle.allocator.specs.Layout.{StateBuffers, stageLimits}
 use Rattle.allocator.specs.Calls.{refusalOf, carriedOut, after, answerOf}
 use Rattle.allocator.specs.Reached.{Reached}
 use Rattle.records.specs.Words.{recordWord, recordsIn, AllPlain, WordsOf}
-use Rattle.records.proofs.WordLaws.{in-front, in-length}
+use Rattle.records.proofs.WordLaws.{tail-kept, in-front, in-length, front-words}
 use Rattle.records.proofs.PlainRecords.{plain-records}
 use Rattle.context.specs.Standing.{JobStands}
 use Rattle.run_loop.specs.declared.RunEnd.{RunEnd}
 use Rattle.run_loop.specs.Running.{endingNumber, LentTo, RunMade}
 use Rattle.calls.specs.Calling.{sizesOf, StateStands}
 use Rattle.pezhkadu.specs.Calling.{Called, RunCalled, runShort}
-use Rattle.pezhkadu.proofs.CallLaws.{not-both, tail-kept, own-short}
+use Rattle.pezhkadu.proofs.CallLaws.{not-both, own-short}
 
 module _ (B : JobSlices) (budget : ℕ) (S : StateBuffers) (ws answer : List ℕ) where
   too-short : runShort ws answer ≡ true → RunCalled B budget S ws answer S ws answer 15
@@ -60,11 +60,6 @@ module _ (B : JobSlices) (budget : ℕ) (S : StateBuffers) (ws answer : List ℕ
     module _ (enough : shortBuffer stageLimits (sizesOf B S) ≡ false) (ws₁ : List ℕ) (renewed : ws₁ ≡ sets ws 0 (map recordWord (recordsIn ws)))
         (back : AllPlain (recordsIn ws) → 512 ≤ length ws → recordsIn ws₁ ≡ recordsIn ws)
         (W′ : List ℕ) (S′ : StateBuffers) (r : RunEnd) (d : RunMade budget (listsIn B) S (take 512 ws₁) S′ W′ r) (size : length W′ ≡ 512) where
-      front : take 512 ws₁ ≡ map recordWord (recordsIn ws)
-      front =
-          let n : length (map recordWord (recordsIn ws)) ≡ 512 = length-map (recordsIn ws) recordWord ∙ in-length ws in
-          ap (take 512) (renewed ∙ sets-eq (map recordWord (recordsIn ws)) ws 0 (omega (arith, n))) ∙ take-at (map recordWord (recordsIn ws)) _ 512 n
-
       lent-so : (j : Job) (s : State) (t : StateBuffers) → Reached j s → JobStands j (listsIn B) → StateStands j s t S (recordsIn ws) → LentTo j s t (listsIn B) S (take 512 ws₁)
       lent-so j s t reach job st =
           record {
@@ -72,12 +67,8 @@ module _ (B : JobSlices) (budget : ℕ) (S : StateBuffers) (ws answer : List ℕ
             job-stands = job;
             stands = st .stands;
             records-are =
-                record {
-                  words-are = front ∙ ap (map recordWord) (st .records-are);
-                  read-so =
-                      sym (in-front (take 512 ws₁) (drop 512 ws₁) (ap length front ∙ length-map (recordsIn ws) recordWord ∙ in-length ws))
-                      ∙ ap recordsIn (take-append-drop 512 ws₁) ∙ back (rw (st .records-are) (plain-records j s reach)) l ∙ st .records-are;
-                };
+                subst (λ (rs : List Assignment). WordsOf rs (take 512 ws₁)) (st .records-are)
+                (front-words (recordsIn ws) ws ws₁ (in-length ws) l renewed back (rw (st .records-are) (plain-records j s reach)));
           }
 
       pub run-done :

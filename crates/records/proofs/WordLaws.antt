@@ -6,8 +6,8 @@ use mathlib.Core.Path.{_≡_, refl, sym, ap, subst, _∙_}
 use mathlib.Core.List.{List, [], _∷_, _++_, map}
 use mathlib.Core.Bool.{Bool, true, false, not}
 use lib.Dec.{T, eqb}
-use lib.ListN.{length, getD, set, drop, length-map, length-set, List·getD-map, List·getD-append, List·getD-eq-default}
-use lib.Seq.{sets, drop-cons, drop-length, drop-set-lt, set-out, getD-set-same, getD-set-other, ext-getD}
+use lib.ListN.{length, getD, set, take, drop, take-append-drop, length-map, length-set, List·getD-map, List·getD-append, List·getD-eq-default}
+use lib.Seq.{sets, sets-eq, length-sets, take-at, take-all, drop-at, drop-cons, drop-length, drop-set-lt, set-out, getD-set-same, getD-set-other, ext-getD}
 use lib.Ieee.{Float, nan, inf, fin, binary32, ofBits, toBits, isNan, fits, ne, eq}
 use lib.Ieee.Compare.{differs-from-itself}
 use lib.Ieee.Bits.{ofBits-toBits, toBits-lt, nanBits-is}
@@ -22,7 +22,6 @@ use Rattle.allocator.specs.declared.Assignment.the-variants.{Assigned, Unassign
 use Rattle.records.specs.Fields.{regIn, recordWeight, kindOf}
 use Rattle.records.specs.Words.{weightBits, weightIn, recordWord, recordIn, recordsIn, heldIn, PlainRecord, AllPlain, WordsOf}
 use Rattle.records.proofs.FieldLaws.{record-back}
-use Rattle.records.proofs.Filling.{sets-whole}
 
 -- ---- bits
 
@@ -219,6 +218,15 @@ pub held-read : (ws : List ℕ) (v : ℕ) → v < 512 → getD (heldIn ws) v zer
 unfolding heldIn
 held-read ws v h = List·getD-map recordWeight (recordsIn ws) v Dead ∙ ap recordWeight (record-in ws v h)
 
+-- what is stored in front leaves the tail
+pub tail-kept : (rs : List Assignment) (ws : List ℕ) → length rs ≡ 512 → 512 ≤ length ws → drop 512 (sets ws 0 (map recordWord rs)) ≡ drop 512 ws
+tail-kept rs ws n l =
+    let size : length (map recordWord rs) ≡ 512 = length-map rs recordWord ∙ n in
+    let size′ : 0 + length (map recordWord rs) ≡ 512 = omega (arith, size) in
+    ap (drop 512) (sets-eq (map recordWord rs) ws 0 (omega (arith, size)))
+    ∙ drop-at (map recordWord rs) (drop (0 + length (map recordWord rs)) ws) 512 size
+    ∙ ap (λ (k : ℕ). drop k ws) size′
+
 -- the first 512 words are all that is read
 pub in-front : (ws behind : List ℕ) → length ws ≡ 512 → recordsIn (ws ++ behind) ≡ recordsIn ws
 in-front ws behind n =
@@ -227,11 +235,25 @@ in-front ws behind n =
     let k : i < 512 = omega (arith, in-length (ws ++ behind)) in
     record-in (ws ++ behind) i k ∙ ap recordIn (List·getD-append ws behind 0 i (omega (arith, n))) ∙ sym (record-in ws i k))
 
--- what was stored in as many words
-pub stored-words : (rs : List Assignment) (ws₀ ws : List ℕ) → length rs ≡ 512 → length ws₀ ≡ 512 → ws ≡ sets ws₀ 0 (map recordWord rs)
-    → (AllPlain rs → 512 ≤ length ws₀ → recordsIn ws ≡ rs) → AllPlain rs → WordsOf rs ws
-stored-words rs ws₀ ws n m e back p =
-    record { words-are = e ∙ sets-whole (map recordWord rs) ws₀ (length-map rs recordWord ∙ n ∙ sym m); read-so = back p (omega (arith, m)) }
+-- records that were stored in front, and are read again: their words
+module _ (rs : List Assignment) (ws₀ ws : List ℕ) (n : length rs ≡ 512) (m : 512 ≤ length ws₀) (e : ws ≡ sets ws₀ 0 (map recordWord rs))
+    (back : AllPlain rs → 512 ≤ length ws₀ → recordsIn ws ≡ rs) (p : AllPlain rs) where
+  front-are : take 512 ws ≡ map recordWord rs
+  front-are =
+      let k : length (map recordWord rs) ≡ 512 = length-map rs recordWord ∙ n in
+      ap (take 512) (e ∙ sets-eq (map recordWord rs) ws₀ 0 (omega (arith, k))) ∙ take-at (map recordWord rs) _ 512 k
+
+  pub front-words : WordsOf rs (take 512 ws)
+  front-words =
+      record {
+        words-are = front-are;
+        read-so =
+            sym (in-front (take 512 ws) (drop 512 ws) (ap length front-are ∙ length-map rs recordWord ∙ n)) ∙ ap recordsIn (take-append-drop 512 ws) ∙ back p m;
+      }
+
+  -- where they take all words
+  pub stored-words : length ws₀ ≡ 512 → WordsOf rs ws
+  stored-words k = subst (WordsOf rs) (take-all 512 ws (omega (arith, k, ap length e, length-sets ws₀ 0 (map recordWord rs)))) front-words
 
 module _ {rs : List Assignment} {ws : List ℕ} (w : WordsOf rs ws) where
   pub word-read : (v : ℕ) → v < 512 → recordIn (getD ws v 0) ≡ getD rs v Dead

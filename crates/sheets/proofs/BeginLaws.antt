@@ -1,130 +1,77 @@
 -- A job that is loaded and run with its budget: the lines from the first position are together the printed sheet. Assumes nothing.
-use Prim.Native.Nat.{ℕ, _+_, _-_, _≤_, _<_}
+use Prim.Native.Nat.{ℕ, _≤_, _<_}
 use native.Mathlib.Omega.{arith}
 use mathlib.Core.Path.{_≡_, refl, sym, ap, _∙_, subst}
 use mathlib.Core.List.{List, [], _∷_, _++_, map}
 use mathlib.Core.Bool.{Bool, true, false, _||_, or-true, or-false}
 use lib.Dec.{ltb}
-use lib.ListN.{length, drop, replicate, length-drop, length-map, length-append, length-replicate}
-use lib.Seq.{sets, sets-eq}
+use lib.ListN.{length, take, drop, take-append-drop, length-map}
+use lib.Seq.{sets, take-at, drop-at}
 use borrow.Author.Tests.{lt-ltb, le-ltb}
-use Rattle.lent.specs.Parts.{Begins}
-use Rattle.reg_matrix.specs.Lists.{count, padded}
 use Rattle.reg_matrix.specs.Lines.{refusedLine}
-use Rattle.reg_matrix.specs.Refusals.{refusal, shortBuffer}
-use Rattle.reg_matrix.specs.Layout.{maxEntries, endWords, restWords, useWords}
-use Rattle.reg_matrix.proofs.Places.{count-length}
+use Rattle.reg_matrix.specs.Refusals.{shortBuffer}
 use Rattle.job.specs.Model.{Job}
 use Rattle.job.specs.Load.{Bytes, wholeJob, Loaded, notLoaded, loaded, loadWith}
-use Rattle.job.specs.Layout.{JobSlices, jobBuffers, headerOf, listsIn}
+use Rattle.job.specs.Layout.{JobSlices, headerOf, listsIn}
 use Rattle.job.specs.declared.JobHeader.{JobHeader}
 use Rattle.allocator.specs.declared.Assignment.{Assignment}
 use Rattle.allocator.specs.declared.Ending.{Ending}
-use Rattle.allocator.specs.declared.Ending.the-variants.{Done, Spent, TooMany}
-use Rattle.allocator.specs.State.{State, freshState, recordOf, records}
-use Rattle.allocator.specs.Layout.{StateBuffers, stageLimits, queueWords, lastWords}
-use Rattle.allocator.specs.Calls.{load, running, refusalOf, carriedOut, after, answerOf}
-use Rattle.allocator.specs.Run.{run}
+use Rattle.allocator.specs.State.{freshState, records}
+use Rattle.allocator.specs.Layout.{StateBuffers, stageLimits}
+use Rattle.allocator.specs.Calls.{load}
 use Rattle.allocator.specs.Reached.{Reached}
 use Rattle.allocator.specs.Sheet.{sheetOf, printed}
 use Rattle.allocator.proofs.Loading.{stage-premises}
 use Rattle.allocator.proofs.Good.{reached-fresh, reached-run}
 use Rattle.loader.specs.declared.load.JobLoaded.{JobLoaded}
 use Rattle.loader.specs.declared.load.JobLoaded.the-variants.{Is, Refused as NotLoaded}
-use Rattle.stage.proofs.QueueLaws.{tournament-length}
 use Rattle.context.specs.Standing.{JobStands, Stands}
-use Rattle.run_loop.specs.Running.{lentState, endingNumber}
-use Rattle.calls.specs.Calling.{sizesOf, StateStands, refusalNumber, RunCalled}
+use Rattle.run_loop.specs.declared.RunEnd.{RunEnd}
+use Rattle.run_loop.specs.Running.{lentState, LentTo, RunMade}
+use Rattle.calls.specs.Calling.{sizesOf}
 use Rattle.calls.specs.StageLoading.{laterState, laterJob, StageLoadParts, StageLoadDone}
 use Rattle.records.specs.Fields.{firstRecords}
 use Rattle.calls.proofs.StageLoads.{append-short, behindState, laid-state, laid-job, same-header, records-first}
 use Rattle.listing.specs.declared.Listing.{Listing}
 use Rattle.lines.specs.LineTexts.{lent}
 use Rattle.listing.proofs.SheetLaws.{Laid, reached-sheet}
-use Rattle.records.specs.Words.{recordWord, recordsIn, AllPlain}
-use Rattle.records.proofs.PlainRecords.{plain-records}
+use Rattle.records.specs.Words.{recordWord, recordsIn, AllPlain, WordsOf}
+use Rattle.records.proofs.WordLaws.{tail-kept, in-front, front-words}
+use Rattle.records.proofs.PlainRecords.{plain-records, records-length}
 use Rattle.sheets.specs.declared.Printing.{Printing}
 use Rattle.sheets.specs.declared.Printing.the-variants.{Refused, At}
-use Rattle.sheets.specs.Printing.{sheetLimits, sheetSizes, loadedWith, ranOf, stateIn, recordsOn, startOf, shown, BegunParts, Begun, endingOf, RunStored}
+use Rattle.sheets.specs.Printing.{sheetLimits, sheetSizes, loadedWith, ranOf, stateIn, recordsOn, startOf, shown, BegunParts, Begun, RunStored}
 
--- ---- what stands somewhere is no shorter than its limit
-
-module _ {A : Type 0} where
-  padded-most : (n : ℕ) (d : A) (xs : List A) → n ≤ length (padded n d xs)
-  unfolding padded
-  padded-most n d xs = omega (arith, length-append xs (replicate (n - length xs) d), length-replicate {A = A} (n - length xs) d)
-
-  begins-most : (n : ℕ) (xs ys : List A) → n ≤ length xs → Begins xs ys → n ≤ length ys
-  begins-most n xs ys h b = omega (arith, h, ap (λ (l : List A). length l) (b .1), length-append xs (b .0))
-
-  begins-padded : (n : ℕ) (d : A) (xs ys : List A) → Begins (padded n d xs) ys → n ≤ length ys
-  begins-padded n d xs ys b = begins-most n (padded n d xs) ys (padded-most n d xs) b
-
-  -- a list that stands last in a slice
-  behind-padded : (a n : ℕ) (d : A) (xs ys : List A) → 0 < n → Begins (padded n d xs) (drop a ys) → a + n ≤ length ys
-  behind-padded a n d xs ys h b = omega (arith, begins-padded n d xs (drop a ys) b, length-drop a ys)
-
--- each size is at least its limit
-infixr 20 _and_
-data Long : List ℕ → List ℕ → Type 0 where
-  all : Long [] []
-  _and_ : {n x : ℕ} {ls xs : List ℕ} → n ≤ x → Long ls xs → Long (n ∷ ls) (x ∷ xs)
-
-long-enough : {ls xs : List ℕ} → Long ls xs → shortBuffer ls xs ≡ false
-unfolding shortBuffer
-long-enough all = refl
-long-enough (_and_ {n} {x} {ls} {xs} h hs) = ap (λ (b : Bool). b || shortBuffer ls xs) (le-ltb x n h) ∙ long-enough hs
-
-last-length : (s : State) → length (lastWords s) ≡ 512
-unfolding lastWords
-last-length s = length-map (count 0 512) _ ∙ count-length 0 512
-
-stands-long : (j : Job) (s : State) (t : StateBuffers) (B : JobSlices) (S : StateBuffers) → JobStands j (listsIn B) → Stands j s t (S .ends) (S .rests) (S .queue) (S .last) → shortBuffer stageLimits (sizesOf B S) ≡ false
-unfolding jobBuffers useWords endWords restWords
-stands-long j s t B S b st =
-    let r = b .reads in
-    long-enough (
-    behind-padded 64 512 _ _ (B .j64) (omega arith) (r .fixedUses)
-    and behind-padded 1024 512 _ _ (B .j32) (omega arith) (b .sizes)
-    and behind-padded 1554 513 _ _ (B .j16) (omega arith) (r .segmentStarts)
-    and behind-padded 1536 1024 _ _ (B .j8) (omega arith) (r .hintRegs)
-    and behind-padded 512 1024 _ _ (B .jf) (omega arith) (r .hintWeights)
-    and begins-padded maxEntries _ _ _ (t .ends, st .moves .table .ends-are)
-    and begins-padded maxEntries _ _ _ (t .rests, st .moves .table .rests-are)
-    and begins-most 1024 (queueWords j s) _ (omega (arith, tournament-length j s)) (t .queue, st .moves .queue-is)
-    and begins-most 512 (lastWords s) _ (omega (arith, last-length s)) (t .last, st .last-is)
-    and all
-    )
-
--- ---- the run's word
-
-word-back : (e : Ending) → endingOf (endingNumber e) ≡ e
-word-back Done = refl
-word-back Spent = refl
-word-back TooMany = refl
-
--- ---- a run whose records are stored
+-- ---- a run whose records stand in the words
 
 pub run-stored :
     (h : JobHeader) (B : JobSlices) (S : StateBuffers) (W : List ℕ) (S′ : StateBuffers) (W′ : List ℕ) (c : Listing)
-    (firsts after : List Assignment) (answer ending dequeues : ℕ) (word : Ending)
-    → firsts ≡ firstRecords
-    → RunCalled B (h .budget) S firsts S′ after answer ending dequeues
-    → W′ ≡ sets W 0 (map recordWord after)
-    → (AllPlain after → 512 ≤ length W → recordsIn W′ ≡ after)
-    → word ≡ endingOf ending
-    → c ≡ startOf h word dequeues
+    (rs : List Assignment) (n : ℕ) (firsts part : List ℕ) (r : RunEnd)
+    → rs ≡ firstRecords
+    → firsts ≡ sets W 0 (map recordWord rs)
+    → (AllPlain rs → 512 ≤ length W → recordsIn firsts ≡ rs)
+    → (512 ≤ length W → n ≡ 512)
+    → RunMade (h .budget) (listsIn B) S (take n firsts) S′ part r
+    → length part ≡ n
+    → W′ ≡ part ++ drop n firsts
+    → c ≡ startOf h (r .ending) (r .dequeues)
     → RunStored h B S W S′ W′ c
-run-stored h B S W S′ W′ c firsts after answer ending dequeues word first ran stored back w at =
+run-stored h B S W S′ W′ c rs n firsts part r first stored back most ran size e at =
     record {
-      answer = answer;
-      ending = ending;
-      dequeues = dequeues;
-      records-after = after;
-      ran = subst (λ (rs : List Assignment). RunCalled B (h .budget) S rs S′ after answer ending dequeues) first ran;
-      stored = stored;
-      read-back = back;
-      at = at ∙ ap (λ (e : Ending). startOf h e dequeues) w;
+      firsts = firsts;
+      stored = stored ∙ ap (λ (l : List Assignment). sets W 0 (map recordWord l)) first;
+      read-back = subst (λ (l : List Assignment). AllPlain l → 512 ≤ length W → recordsIn firsts ≡ l) first back;
+      end = r;
+      ran =
+          λ l.
+          let q = most l in
+          subst (λ (p : List ℕ). RunMade (h .budget) (listsIn B) S (take 512 firsts) S′ p r) (sym (ap (take 512) e ∙ take-at part (drop n firsts) 512 (size ∙ q)))
+          (subst (λ (k : ℕ). RunMade (h .budget) (listsIn B) S (take k firsts) S′ part r) q ran);
+      behind =
+          λ l.
+          let q = most l in
+          ap (drop 512) e ∙ drop-at part (drop n firsts) 512 (size ∙ q) ∙ ap (λ (k : ℕ). drop k firsts) q ∙ ap (drop 512) stored ∙ tail-kept rs W (ap length first) l;
+      at = at;
     }
 
 -- ---- 15, for the words too
@@ -192,84 +139,74 @@ module _ (bytes : List ℕ) (B : JobSlices) (S : StateBuffers) (W : List ℕ) wh
     job-stands : JobStands j (listsIn B₁)
     job-stands = subst (λ (b : JobSlices). JobStands j (listsIn b)) (sym job-is) (laid-job j (stage-premises (sizesOf B S) bytes j are-bytes loads) B S)
 
-    state-stands : StateStands j (freshState j) (behindState S) S₁ firstRecords
-    state-stands =
-        record {
-          stands = subst (λ (x : StateBuffers). Stands j (freshState j) (behindState S) (x .ends) (x .rests) (x .queue) (x .last)) (sym state-is) (laid-state j S);
-          records-are = records-first j;
-        }
-
-    enough : shortBuffer stageLimits (sizesOf B₁ S₁) ≡ false
-    enough = stands-long j (freshState j) (behindState S) B₁ S₁ job-stands (state-stands .stands)
+    state-stands : Stands j (freshState j) (behindState S) (S₁ .ends) (S₁ .rests) (S₁ .queue) (S₁ .last)
+    state-stands = subst (λ (x : StateBuffers). Stands j (freshState j) (behindState S) (x .ends) (x .rests) (x .queue) (x .last)) (sym state-is) (laid-state j S)
 
     budget-is : h .budget ≡ j .budget
     unfolding headerOf
     budget-is = ap (λ (x : JobHeader). x .budget) head
 
-    -- the run was not refused
-    carried : (b : ℕ) → (refusalNumber (answerOf j (freshState j) (running (sizesOf B₁ S₁) b)) ≡ 0) × (after j (freshState j) (running (sizesOf B₁ S₁) b) ≡ run j b (freshState j) .state)
-    unfolding after answerOf refusalOf refusal carriedOut
-    carried b = (rw enough, rw enough)
-
-    called : (d .answer ≡ 0) × StateStands j (ranOf j .state) (behindState S) S′ (d .records-after)
-    called =
-        let got = d .ran .called h .reached j (freshState j) (behindState S) reach job-stands head state-stands in (
-          got .0 ∙ carried (h .budget) .0,
-          subst (λ (x : State). StateStands j x (behindState S) S′ (d .records-after)) (carried (h .budget) .1 ∙ ap (λ (b : ℕ). run j b (freshState j) .state) budget-is) (got .1),
-        )
-
-    ended : (d .ending ≡ endingNumber (ranOf j .ending)) × (d .dequeues ≡ ranOf j .dequeues)
-    ended =
-        let got = d .ran .ended-so j (freshState j) (behindState S) reach job-stands state-stands (called .0) in
-        (got .0 ∙ ap (λ (b : ℕ). endingNumber (run j b (freshState j) .ending)) budget-is, got .1 ∙ ap (λ (b : ℕ). run j b (freshState j) .dequeues) budget-is)
-
-    stands-so : S′ ≡ stateIn j (ranOf j .state) S
-    unfolding stateIn
-    stands-so =
-        let st = called .1 .stands in
-        ap (λ (l : List ℕ). lentState l (S′ .rests) (S′ .queue) (S′ .last)) (st .moves .table .ends-are)
-        ∙ ap (λ (l : List ℕ). lentState (stateIn j (ranOf j .state) S .ends) l (S′ .queue) (S′ .last)) (st .moves .table .rests-are)
-        ∙ ap (λ (l : List ℕ). lentState (stateIn j (ranOf j .state) S .ends) (stateIn j (ranOf j .state) S .rests) l (S′ .last)) (st .moves .queue-is)
-        ∙ ap (λ (l : List ℕ). lentState (stateIn j (ranOf j .state) S .ends) (stateIn j (ranOf j .state) S .rests) (stateIn j (ranOf j .state) S .queue) l) (st .last-is)
-
-    stored-so : 512 ≤ length W → W′ ≡ recordsOn (ranOf j .state) W
-    unfolding recordsOn records
-    stored-so room =
-        let ws = map recordWord (records (ranOf j .state)) in
-        let n : length ws ≡ 512 = length-map (records (ranOf j .state)) recordWord ∙ length-map (count 0 512) (recordOf (ranOf j .state)) ∙ count-length 0 512 in
-        d .stored
-        ∙ ap (λ (rs : List Assignment). sets W 0 (map recordWord rs)) (called .1 .records-are)
-        ∙ sets-eq ws W 0 (omega (arith, n, room))
-        ∙ ap (λ (k : ℕ). ws ++ drop k W) {x = 0 + length ws} {y = 512} (omega (arith, n))
-
-    start-is : c ≡ startOf (headerOf j) (ranOf j .ending) (ranOf j .dequeues)
-    start-is =
-        d .at
-        ∙ ap (λ (x : JobHeader). startOf x (endingOf (d .ending)) (d .dequeues)) head
-        ∙ ap (λ (n : ℕ). startOf (headerOf j) (endingOf n) (d .dequeues)) (ended .0)
-        ∙ ap (λ (e : Ending). startOf (headerOf j) e (d .dequeues)) (word-back (ranOf j .ending))
-        ∙ ap (λ (n : ℕ). startOf (headerOf j) (ranOf j .ending) n) (ended .1)
-
     reach-after : Reached j (ranOf j .state)
     reach-after = reached-run j (freshState j) reach (j .budget)
 
     module _ (room : 512 ≤ length W) where
+      lent-so : LentTo j (freshState j) (behindState S) (listsIn B₁) S₁ (take 512 (d .firsts))
+      lent-so =
+          record {
+            reached = reach;
+            job-stands = job-stands;
+            stands = state-stands;
+            records-are =
+                subst (λ (rs : List Assignment). WordsOf rs (take 512 (d .firsts))) (records-first j)
+                (front-words firstRecords W (d .firsts) refl room (d .stored) (d .read-back) (subst AllPlain (sym (records-first j)) (plain-records j (freshState j) reach)));
+          }
+
+      ran-so :
+          Stands j (ranOf j .state) (behindState S) (S′ .ends) (S′ .rests) (S′ .queue) (S′ .last)
+          × WordsOf (records (ranOf j .state)) (take 512 W′)
+          × (d .end .ending ≡ ranOf j .ending)
+          × (d .end .dequeues ≡ ranOf j .dequeues)
+      ran-so = subst (λ (b : ℕ). RunMade b (listsIn B₁) S₁ (take 512 (d .firsts)) S′ (take 512 W′) (d .end)) budget-is (d .ran room) .made j (freshState j) (behindState S) lent-so
+
+      start-is : c ≡ startOf (headerOf j) (ranOf j .ending) (ranOf j .dequeues)
+      start-is =
+          d .at
+          ∙ ap (λ (x : JobHeader). startOf x (d .end .ending) (d .end .dequeues)) head
+          ∙ ap (λ (e : Ending). startOf (headerOf j) e (d .end .dequeues)) (ran-so .2)
+          ∙ ap (λ (n : ℕ). startOf (headerOf j) (ranOf j .ending) n) (ran-so .3)
+
+      stands-so : S′ ≡ stateIn j (ranOf j .state) S
+      unfolding stateIn
+      stands-so =
+          let st = ran-so .0 in
+          ap (λ (l : List ℕ). lentState l (S′ .rests) (S′ .queue) (S′ .last)) (st .moves .table .ends-are)
+          ∙ ap (λ (l : List ℕ). lentState (stateIn j (ranOf j .state) S .ends) l (S′ .queue) (S′ .last)) (st .moves .table .rests-are)
+          ∙ ap (λ (l : List ℕ). lentState (stateIn j (ranOf j .state) S .ends) (stateIn j (ranOf j .state) S .rests) l (S′ .last)) (st .moves .queue-is)
+          ∙ ap (λ (l : List ℕ). lentState (stateIn j (ranOf j .state) S .ends) (stateIn j (ranOf j .state) S .rests) (stateIn j (ranOf j .state) S .queue) l) (st .last-is)
+
+      stored-so : W′ ≡ recordsOn (ranOf j .state) W
+      unfolding recordsOn
+      stored-so =
+          sym (take-append-drop 512 W′) ∙ ap (λ (l : List ℕ). l ++ drop 512 W′) (ran-so .1 .words-are)
+          ∙ ap (λ (l : List ℕ). map recordWord (records (ranOf j .state)) ++ l) (d .behind room)
+
       laid : Laid j (ranOf j .state) (recordsIn W′) (lent (B₁ .j64) (S′ .ends) (S′ .rests))
       laid =
+          let n : length (take 512 W′) ≡ 512 = ap length (ran-so .1 .words-are) ∙ length-map (records (ranOf j .state)) recordWord ∙ records-length (ranOf j .state) in
           record {
             maps-behind = job-stands .reads .regs .0;
             ends-behind = behindState S .ends;
             rests-behind = behindState S .rests;
-            records-are = d .read-back (subst AllPlain (sym (called .1 .records-are)) (plain-records j (ranOf j .state) reach-after)) room ∙ called .1 .records-are;
+            records-are = sym (ap recordsIn (take-append-drop 512 W′)) ∙ in-front (take 512 W′) (drop 512 W′) n ∙ ran-so .1 .read-so;
             maps-are = job-stands .reads .regs .1;
-            ends-are = called .1 .stands .moves .table .ends-are;
-            rests-are = called .1 .stands .moves .table .rests-are;
+            ends-are = ran-so .0 .moves .table .ends-are;
+            rests-are = ran-so .0 .moves .table .rests-are;
           }
 
       loaded-begun : Begun bytes B S W B₁ S′ W′ (At c)
       unfolding shown
       loaded-begun =
-          begun B₁ S′ W′ (At c) (loaded j) (same-load room ∙ loads) (ap At start-is, job-is, stands-so, stored-so room)
+          begun B₁ S′ W′ (At c) (loaded j) (same-load room ∙ loads) (ap At start-is, job-is, stands-so, stored-so)
           (ap (λ (x : Listing). shown (At x) B₁ S′ W′) start-is
           ∙ reached-sheet j (ranOf j .state) reach-after (recordsIn W′) (lent (B₁ .j64) (S′ .ends) (S′ .rests)) laid (ranOf j .ending) (ranOf j .dequeues))
 

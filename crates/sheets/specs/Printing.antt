@@ -3,8 +3,7 @@
 use Prim.Native.Nat.{ℕ, _≤_}
 use mathlib.Core.Path.{_≡_}
 use mathlib.Core.List.{List, [], _∷_, _++_, map}
-use mathlib.Core.Bool.{false, cond}
-use lib.Dec.{eqb}
+use mathlib.Core.Bool.{false}
 use lib.ListN.{length, take, drop, getD}
 use lib.Seq.{sets}
 use Rattle.reg_matrix.specs.Lists.{concatMap}
@@ -13,16 +12,16 @@ use Rattle.reg_matrix.specs.Refusals.{shortBuffer}
 use Rattle.reg_matrix.specs.Layout.{maxEntries, endWords, restWords}
 use Rattle.job.specs.Model.{Job}
 use Rattle.job.specs.Load.{Loaded, notLoaded, loaded, loadWith}
-use Rattle.job.specs.Layout.{JobSlices, headerOf}
+use Rattle.job.specs.Layout.{JobSlices, headerOf, listsIn}
 use Rattle.job.specs.declared.JobHeader.{JobHeader}
-use Rattle.allocator.specs.declared.Assignment.{Assignment}
 use Rattle.allocator.specs.declared.Ending.{Ending}
-use Rattle.allocator.specs.declared.Ending.the-variants.{Done, Spent, TooMany}
 use Rattle.allocator.specs.State.{State, freshState, records}
 use Rattle.allocator.specs.Layout.{StateBuffers, stageLimits, queueWords, lastWords}
 use Rattle.allocator.specs.Run.{Ran, run}
 use Rattle.allocator.specs.Sheet.{sheetOf, printed}
-use Rattle.calls.specs.Calling.{sizesOf, RunCalled}
+use Rattle.run_loop.specs.declared.RunEnd.{RunEnd}
+use Rattle.run_loop.specs.Running.{RunMade}
+use Rattle.calls.specs.Calling.{sizesOf}
 use Rattle.calls.specs.StageLoading.{laterJob}
 use Rattle.records.specs.Fields.{firstRecords}
 use Rattle.listing.specs.declared.Listing.{Listing}
@@ -100,20 +99,16 @@ pub record Begun (bytes : List ℕ) (B : JobSlices) (S : StateBuffers) (W : List
   pub shows : shown r B′ S′ W′ ≡ sheetOf (loadedWith B S W bytes)
   pub prints : shortBuffer sheetLimits (sheetSizes B S W) ≡ false → shown r B′ S′ W′ ≡ printed bytes
 
--- the run's word by its number
-abbrev pub endingOf : ℕ → Ending
-endingOf n = cond (eqb n 1) Done (cond (eqb n 2) Spent TooMany)
-
--- a run of what was loaded, whose records were stored in the words
+-- A run of what was loaded, with the job's budget, whose records stand in the first 512 words: first those that a job starts out with, and then the
+-- run's. The answer is the position before the first line.
 pub record RunStored (h : JobHeader) (B : JobSlices) (S : StateBuffers) (W : List ℕ) (S′ : StateBuffers) (W′ : List ℕ) (c : Listing) : Type 0 where
-  pub answer : ℕ
-  pub ending : ℕ
-  pub dequeues : ℕ
-  pub records-after : List Assignment
-  pub ran : RunCalled B (h .budget) S firstRecords S′ records-after answer ending dequeues
-  pub stored : W′ ≡ sets W 0 (map recordWord records-after)
-  pub read-back : AllPlain records-after → 512 ≤ length W → recordsIn W′ ≡ records-after
-  pub at : c ≡ startOf h (endingOf ending) dequeues
+  pub firsts : List ℕ
+  pub stored : firsts ≡ sets W 0 (map recordWord firstRecords)
+  pub read-back : AllPlain firstRecords → 512 ≤ length W → recordsIn firsts ≡ firstRecords
+  pub end : RunEnd
+  pub ran : 512 ≤ length W → RunMade (h .budget) (listsIn B) S (take 512 firsts) S′ (take 512 W′) end
+  pub behind : 512 ≤ length W → drop 512 W′ ≡ drop 512 W
+  pub at : c ≡ startOf h (end .ending) (end .dequeues)
 
 -- ---- one line
 

@@ -1,11 +1,10 @@
 // A loaded job run with its budget, and the lines of its sheet one by one.
 ghost use mathlib.Core.Path.{_≡_};
+ghost use Prim.Native.Nat.{_≤_};
 ghost use Rattle.job.specs.Layout.{slices};
 ghost use Rattle.run_loop.specs.Running.{lentState};
 ghost use Rattle.lines.specs.LineTexts.{lent};
-ghost use Rattle.sheets.specs.Printing.{endingOf, RunStored, NextLine};
-use allocator::Ending;
-use calls::runs::run;
+ghost use Rattle.sheets.specs.Printing.{RunStored, NextLine};
 use job::JobHeader;
 use lent::at;
 use listing::Listing;
@@ -13,21 +12,16 @@ use listing::Step;
 use records::first_records;
 use records::words::record_of;
 use records::words::store;
+use run_loop::run_on;
 
-// A run's word by its number.
-fn ending_of(n: u64) -> Ending
-    ensures { λ r. ⌜ r ≡ endingOf n ⌝ }
+// So many words, at most the 512 of the records.
+fn at_most(words: usize) -> usize
+    ensures { λ r. ⌜ (r ≤ words) × (512 ≤ words → r ≡ 512) ⌝ }
 {
-    if n == 1 {
-        return Ending::Done;
-    }
-    if n == 2 {
-        return Ending::Spent;
-    }
-    Ending::TooMany
+    if words < 512 { words } else { 512 }
 }
 
-// Runs what was loaded with the job's budget and stores the records in the words. The answer is the position before the sheet's first line.
+// Runs what was loaded with the job's budget, with its records in the words. The answer is the position before the sheet's first line.
 pub fn run_loaded(
     header: JobHeader,
     j64: &[u64],
@@ -43,27 +37,13 @@ pub fn run_loaded(
 ) -> Listing
     ensures { λ r. ⌜ RunStored header (slices (now (j64 .entry)) (now (j32 .entry)) (now (j16 .entry)) (now (j8 .entry)) (now (jf .entry))) (lentState (now (ends .entry)) (now (rests .entry)) (now (queue .entry)) (now (last .entry))) (now (words .entry)) (lentState (now (ends .exit)) (now (rests .exit)) (now (queue .exit)) (now (last .exit))) (now (words .exit)) r ⌝ }
 {
-    let mut answer: u64 = 0;
-    let mut ending: u64 = 0;
-    let mut dequeues: u64 = 0;
-    let records = run(
-        first_records(),
-        header.budget as u64,
-        j64,
-        j32,
-        j16,
-        j8,
-        jf,
-        ends,
-        rests,
-        queue,
-        last,
-        &mut answer,
-        &mut ending,
-        &mut dequeues,
-    );
-    store(records, words);
-    Listing::start(ending_of(ending), dequeues, header)
+    store(first_records(), words);
+    let n = at_most(words.len());
+    let all = &mut words[..n];
+    let budget = header.budget as u64;
+    let end = run_on(budget, j64, j32, j16, j8, jf, ends, rests, queue, last, all);
+    let ending = end.ending;
+    Listing::start(ending, end.dequeues, header)
 }
 
 // Stores the next line of the sheet from the front of the lent line, and answers its length and the position after it, or that there is none. What is
