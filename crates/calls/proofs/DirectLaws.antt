@@ -6,7 +6,7 @@ use mathlib.Core.List.{List, _++_}
 use mathlib.Core.Option.{Option, none, some}
 use mathlib.Core.Bool.{Bool, true, false, not}
 use lib.Dec.{T, leb, nleb→lt}
-use lib.Ieee.{Float, binary32, ofBits}
+use lib.Ieee.{binary32, ofBits}
 use lib.ListN.{length, getD, set, List·getD-eq-default}
 use lib.Seq.{set-getD}
 use Rattle.reg_matrix.specs.Lists.{isSome}

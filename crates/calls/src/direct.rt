@@ -66,8 +66,9 @@ fn wide(x: u8) -> u64
 fn placed(before: Assignment, reg: u8, weight: u32) -> Assignment
     ensures { λ r. ⌜ (weight < 0x7F80_0000 → r ≡ Assigned (flagIn before) reg (ofBits binary32 weight)) ⌝ }
 {
+    let flag = flag_of(before);
     Assignment::Assigned {
-        evicted_for_preference: flag_of(before),
+        evicted_for_preference: flag,
         reg,
         preference_weight: weight_of(weight),
     }
@@ -193,10 +194,10 @@ impl Eviction {
         ensures { λ r. ⌜ ((rs : List Assignment) → a ≡ getD rs (self .v) Dead → Evicted header (slices (now (j64 .entry)) (now (j32 .entry)) (now (j16 .entry)) (now (j8 .entry)) (now (jf .entry))) (self .v) (lentState (now (ends .entry)) (now (rests .entry)) (now (queue .entry)) (now (last .entry))) rs (lentState (now (ends .exit)) (now (rests .exit)) (now (queue .exit)) (now (last .entry))) (set rs (self .v) (r .record)) (r .refusal) (r .reg)) ⌝ }
     {
         let short = short_buffers(j64, j32, j16, j8, jf, ends, rests, queue, last);
-        let refusal = evict_refusal(short, a, header.virt_regs, self.v);
-        if refusal != 0 {
+        let refused = evict_refusal(short, a, header.virt_regs, self.v);
+        if refused != 0 {
             return Answered {
-                refusal,
+                refusal: refused,
                 reg: 0,
                 record: a,
             };

@@ -5,11 +5,10 @@ use mathlib.Core.Path.{_≡_, refl, sym, ap, _∙_, subst}
 use mathlib.Core.List.{List, [], _++_}
 use mathlib.Core.Option.{Option, none, some}
 use mathlib.Core.Bool.{Bool, true, false, not, _&&_, _||_}
-use lib.Dec.{T, ltb}
-use lib.Ieee.{Float}
+use lib.Dec.{T}
 use lib.ListN.{getD, set}
 use Rattle.reg_matrix.specs.Lists.{isSome, foldl}
-use Rattle.job.specs.Model.{Job, Plain}
+use Rattle.job.specs.Model.{Job}
 use Rattle.job.specs.Layout.{JobBuffers}
 use Rattle.allocator.specs.declared.Assignment.{Assignment}
 use Rattle.allocator.specs.declared.Assignment.the-variants.{Assigned as Holds, Dead}
@@ -21,12 +20,11 @@ use Rattle.allocator.specs.Layout.{StateBuffers, queueWords, lastWords}
 use Rattle.job.proofs.Premises.{IsNumber}
 use Rattle.reg_matrix.proofs.Tests.{both}
 use Rattle.allocator.specs.Dequeue.{Decision, leaves, takes, splits, fails, decide, stateOf, evictAll, carryOut, dequeue}
-use Rattle.allocator.specs.Reached.{Reached}
 use Rattle.allocator.proofs.Runs.{evictAll-keeps}
 use Rattle.allocator.proofs.Good.{Good, Idle, good-reached, queued-idle, takes-good, reached-evict-all}
 use Rattle.allocator.proofs.Records.{give-records, leave-records, requeue-records, lose-last, leave-last, requeue-last}
 use Rattle.stage.proofs.ReachedSearch.{record-read}
-use Rattle.queue.specs.QueueWalk.{keyOf, setWord}
+use Rattle.queue.specs.QueueWalk.{setWord}
 use Rattle.context.specs.Standing.{Stands}
 use Rattle.records.specs.Words.{recordWord, recordIn, PlainRecord, WordsOf}
 use Rattle.records.proofs.WordLaws.{word-read, word-set, dead-word}
@@ -36,7 +34,7 @@ use Rattle.decisions.specs.declared.Fate.the-variants.{Leaves, Takes, Evicts, S
 use Rattle.decisions.specs.declared.Decided.{Decided}
 use Rattle.decisions.specs.Deciding.{members, decisionBy, decisionOf}
 use Rattle.records.specs.Fields.{flagIn}
-use Rattle.context.specs.Carrying.{EvictReads, TakeReads, keyIn, EvictedAll, Taken, givenRecord, Settled, isEvicting, isTaking, PassedParts, PassedBy, CarriedOut}
+use Rattle.context.specs.Carrying.{EvictReads, keyIn, EvictedAll, Taken, givenRecord, Settled, isEvicting, isTaking, PassedParts, PassedBy, CarriedOut}
 use Rattle.context.proofs.CarryLaws.{unqueued, queued-at}
 
 -- a decision by the fate

@@ -12,7 +12,6 @@ use Rattle.job.specs.Model.{Job, Plain}
 use Rattle.job.specs.Layout.{JobBuffers, jobBuffers, JobSlices, slices, listsIn}
 use Rattle.allocator.specs.declared.CandidateReg.{CandidateReg}
 use Rattle.allocator.specs.declared.Stage.{Stage}
-use Rattle.allocator.specs.declared.Stage.the-variants.{Split}
 use Rattle.allocator.specs.declared.Assignment.{Assignment}
 use Rattle.allocator.specs.declared.Assignment.the-variants.{Assigned, Dead}
 use Rattle.allocator.specs.State.{State, heldBy, isUnassigned, checkOf, records, give, lose}

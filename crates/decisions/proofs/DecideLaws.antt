@@ -1,7 +1,7 @@
 -- A dequeue's decision in the code, end by end: what each function returns there is what the definition says. Assumes nothing.
 use Prim.Native.Nat.{ℕ, _-_, _≤_}
 use native.Mathlib.Omega.{arith}
-use mathlib.Core.Path.{_≡_, refl, sym, ap, _∙_, subst}
+use mathlib.Core.Path.{_≡_, refl, ap, _∙_, subst}
 use mathlib.Core.List.{List, []}
 use mathlib.Core.Option.{Option}
 use mathlib.Core.Bool.{Bool, true, false, not, _&&_, cond}
@@ -9,7 +9,7 @@ use lib.Dec.{eqb}
 use lib.Ieee.{Float, lt, eq}
 use lib.ListN.{length, getD, replicate, length-take}
 use borrow.Author.Tests.{eq-eqb, ne-eqb}
-use Rattle.matrix.specs.Walk.{Lent, lent}
+use Rattle.matrix.specs.Walk.{Lent}
 use Rattle.job.specs.Model.{VirtReg, zeroWeight}
 use Rattle.job.specs.Layout.{JobBuffers}
 use Rattle.allocator.specs.declared.CandidateReg.{CandidateReg}
@@ -26,7 +26,7 @@ use Rattle.stage.specs.declared.allocate.Best.{Best}
 use Rattle.stage.specs.declared.allocate.Available.{Available}
 use Rattle.stage.specs.declared.allocate.Available.the-variants.{Clear, NoneClear, NoCandidates}
 use Rattle.order.proofs.OrderLaws.{hinted-is}
-use Rattle.decisions.specs.Deciding.{shareOf, Decided, Leaves, Takes, Evicts, Splits, Fails, decided, without, lastIn, preferredOr, clearIn, evictedOr, noneClearIn, foundIn, inOrder, lentTo, classIn, hintedIn, decidedIn}
+use Rattle.decisions.specs.Deciding.{shareOf, Leaves, Takes, Evicts, Splits, Fails, decided, without, lastIn, preferredOr, clearIn, evictedOr, noneClearIn, foundIn, inOrder, hintedIn}
 
 -- ---- the register last given to a set, by its word
 

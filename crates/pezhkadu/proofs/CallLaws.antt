@@ -1,13 +1,11 @@
 -- Calls whose records stand in lent words: what a call over the records that are read answers and leaves is what the definitions say of the words.
 -- Assumes nothing.
-use Prim.Native.Nat.{ℕ, _+_, _≤_}
-use native.Mathlib.Omega.{arith}
+use Prim.Native.Nat.{ℕ, _≤_}
 use mathlib.Core.Path.{_≡_, refl, sym, ap, _∙_, subst}
-use mathlib.Core.List.{List, map}
+use mathlib.Core.List.{List}
 use mathlib.Core.Bool.{Bool, true, false, _||_}
 use lib.Dec.{T, ltb}
-use lib.ListN.{length, drop, length-map}
-use lib.Seq.{sets, sets-eq, drop-at}
+use lib.ListN.{length, drop}
 use borrow.Author.Tests.{ltb-false}
 use Rattle.reg_matrix.specs.Refusals.{shortBuffer}
 use Rattle.job.specs.Model.{Job}
@@ -19,7 +17,7 @@ use Rattle.allocator.specs.Calls.{Call, after}
 use Rattle.allocator.proofs.Good.{reached-after}
 use Rattle.calls.specs.Calling as calling
 use Rattle.calls.specs.Calling.{sizesOf, StateStands}
-use Rattle.records.specs.Words.{recordWord, recordsIn, AllPlain}
+use Rattle.records.specs.Words.{recordsIn, AllPlain}
 use Rattle.records.proofs.PlainRecords.{plain-records}
 use Rattle.words.specs.Words.{headerIn, wordsShort}
 use Rattle.pezhkadu.specs.Calling.{Called}

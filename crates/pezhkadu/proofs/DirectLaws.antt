@@ -3,13 +3,12 @@
 use Prim.Native.Nat.{ℕ, _≤_, _<_}
 use native.Mathlib.Omega.{arith}
 use mathlib.Core.Path.{_≡_, refl, sym, ap, _∙_, subst}
-use mathlib.Core.List.{List, map}
+use mathlib.Core.List.{List}
 use mathlib.Core.Option.{Option, some}
 use mathlib.Core.Bool.{Bool, true, false, cond, _||_}
 use lib.Dec.{ltb, leb}
 use lib.Ieee.{binary32, ofBits}
 use lib.ListN.{length, set, drop}
-use lib.Seq.{sets}
 use borrow.Author.Tests.{lt-ltb, le-ltb, le-leb, ltb-true, ltb-false}
 use Rattle.reg_matrix.specs.Lists.{isNil}
 use Rattle.reg_matrix.specs.Refusals.{refusal, shortBuffer}
@@ -26,7 +25,7 @@ use Rattle.call_tests.specs.Testing.{unknownIn, placeTests, evictTests}
 use Rattle.calls.specs.Calling as calling
 use Rattle.calls.specs.Calling.{sizesOf, refusalNumber, valueNumber, StateStands}
 use Rattle.call_tests.proofs.RefusalLaws.{placing-tests, evicting-tests}
-use Rattle.records.specs.Words.{recordWord, recordsIn, AllPlain}
+use Rattle.records.specs.Words.{recordsIn, AllPlain}
 use Rattle.words.specs.Words.{headerIn, cut, wordsShort}
 use Rattle.pezhkadu.specs.Calling.{Called, evictShort, EvictCalled}
 use Rattle.words.proofs.NumberLaws.{uncut}

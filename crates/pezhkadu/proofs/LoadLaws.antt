@@ -1,12 +1,10 @@
 -- Loading a stage whose header and records stand in lent words. Assumes nothing.
-use Prim.Native.Nat.{ℕ, _≤_, _<_}
+use Prim.Native.Nat.{ℕ}
 use mathlib.Core.Path.{_≡_, refl, sym, ap, _∙_, subst}
 use mathlib.Core.List.{List, map}
-use mathlib.Core.Bool.{Bool, true, false, not, _||_}
-use lib.Dec.{T, ltb}
-use lib.ListN.{length}
+use mathlib.Core.Bool.{Bool, true, false, not}
+use lib.Dec.{T}
 use lib.Seq.{sets}
-use borrow.Author.Tests.{lt-ltb, le-ltb}
 use Rattle.job.specs.Load.{Loaded, notLoaded, loaded}
 use Rattle.job.specs.Layout.{JobSlices}
 use Rattle.job.specs.declared.JobHeader.{JobHeader}

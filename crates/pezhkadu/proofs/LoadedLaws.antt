@@ -5,11 +5,9 @@ use native.Mathlib.Nat.{mod-eq-of-lt}
 use mathlib.Core.Path.{_≡_, refl, sym, ap, _∙_, subst}
 use mathlib.Core.List.{List, [], _∷_, _++_, map}
 use mathlib.Core.Option.{Option, none, some}
-use mathlib.Core.Bool.{Bool, true, false, cond, _||_}
-use lib.Dec.{ltb}
+use mathlib.Core.Bool.{Bool, true, false, cond}
 use lib.ListN.{length, drop, getD, replicate, length-map, length-replicate, List·getD-append}
 use lib.Seq.{sets, sets-eq, ext-getD}
-use borrow.Author.Tests.{ltb-false}
 use Rattle.lent.proofs.Laws.{any-default}
 use Rattle.reg_matrix.specs.Lists.{count}
 use Rattle.reg_matrix.specs.declared.ValueSegment.{ValueSegment}
@@ -38,7 +36,6 @@ use Rattle.words.specs.Words.{probeWords, headerWords, probeIn, headerIn}
 use Rattle.words.specs.Words.{wordsShort}
 use Rattle.pezhkadu.specs.Loading.{LoadParts, LoadCalled, JustLoaded}
 use Rattle.pezhkadu.proofs.CallLaws.{long-both}
-use Rattle.pezhkadu.proofs.CallLaws.{not-both}
 use Rattle.pezhkadu.proofs.RefusalNumbers.{not-zero}
 
 -- ---- the header

@@ -23,7 +23,7 @@ use Rattle.context.specs.Standing.{JobStands}
 use Rattle.run_loop.specs.declared.RunEnd.{RunEnd}
 use Rattle.run_loop.specs.Running.{endingNumber, LentTo, RunMade}
 use Rattle.calls.specs.Calling.{sizesOf, StateStands}
-use Rattle.pezhkadu.specs.Calling.{Called, RunCalled, runShort}
+use Rattle.pezhkadu.specs.Calling.{RunCalled, runShort}
 use Rattle.pezhkadu.proofs.CallLaws.{not-both, own-short}
 
 module _ (B : JobSlices) (budget : ℕ) (S : StateBuffers) (ws answer : List ℕ) where

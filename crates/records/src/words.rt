@@ -72,8 +72,9 @@ pub fn put_record(words: &mut [u64], v: u16, a: Assignment)
     ensures { λ r. ⌜ (drop 512 (now (words .exit)) ≡ drop 512 (now (words .entry))) × (AllPlain (set (recordsIn (now (words .entry))) v a) → 512 ≤ length (now (words .entry)) → recordsIn (now (words .exit)) ≡ set (recordsIn (now (words .entry))) v a) ⌝ }
 {
     let i = v as usize;
+    let word = word_of(a);
     if i < 512 {
-        put(words, i, word_of(a));
+        put(words, i, word);
     }
 }
 

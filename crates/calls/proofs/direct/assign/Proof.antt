@@ -1,5 +1,4 @@
 use borrow.Author.Needs.{needs}
-use mathlib.Core.Path.{sym}
 use Rattle.calls.proofs.direct.assign.Statement.{statement}
 use Rattle.calls.proofs.direct.assign.Tie as tie
 

@@ -5,7 +5,6 @@ use mathlib.Core.Path.{_≡_, refl, sym, _∙_}
 use mathlib.Core.List.{[]}
 use lib.ListN.{length}
 use Rattle.job.specs.Layout.{slices, listsIn}
-use Rattle.records.specs.Words.{recordIn}
 use Rattle.context.proofs.CarryLaws.{EvictedTo, evict-start, evict-end, evict-pass, evict-idle, evict-one}
 use Rattle.context.proofs.carry.evict_all.Statement.{statement}
 use Rattle.context.proofs.carry.evict_all.Tie as tie

@@ -1,6 +1,5 @@
 use borrow.Author.Needs.{needs}
 use mathlib.Core.Path.{_∙_}
-use Rattle.records.specs.Words.{recordIn}
 use Rattle.context.proofs.Carried.{settled}
 use Rattle.context.proofs.carry.settle.Statement.{statement}
 use Rattle.context.proofs.carry.settle.Tie as tie

@@ -1,7 +1,5 @@
 use borrow.Author.Needs.{needs}
 use mathlib.Core.Path.{sym, _∙_}
-use Rattle.job.specs.Layout.{slices}
-use Rattle.run_loop.specs.Running.{lentState}
 use Rattle.pezhkadu.proofs.DirectLaws.{assign-short, assign-refused, assign-done}
 use Rattle.pezhkadu.proofs.direct.pezhkadu_assign.Statement.{statement}
 use Rattle.pezhkadu.proofs.direct.pezhkadu_assign.Tie as tie

@@ -13,7 +13,7 @@ same-length : tie.Need-same-length
 same-length c = search needs
 
 returns : tie.Need-returns
-returns c = put-inside _ _ _ _ _ (c .before .before .before .before .before .if1 .taken) (c .before .before .before .word-of .ensures .1) (c .before .before .put .ensures)
+returns c = put-inside _ _ _ _ _ (c .before .before .before .before .if1 .taken) (c .before .before .before .before .before .word-of .ensures .1) (c .before .before .put .ensures)
 
 returns-2 : tie.Need-returns-2
 returns-2 c = put-past _ _ _ (c .if1 .left)

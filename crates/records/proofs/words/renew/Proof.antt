@@ -1,6 +1,5 @@
 use borrow.Author.Needs.{needs}
 use Prim.Native.Nat.{_-_}
-use mathlib.Core.Path.{sym}
 use Rattle.records.proofs.WordLaws.{Renewing, renew-start, renew-more, store-end, store-back}
 use Rattle.records.proofs.words.renew.Statement.{statement}
 use Rattle.records.proofs.words.renew.Tie as tie

@@ -1,4 +1,3 @@
-use borrow.Author.Needs.{needs}
 use borrow.Author.Tests.{lt-ltb, le-ltb}
 use Rattle.words.proofs.header.short_words.Statement.{statement}
 use Rattle.words.proofs.header.short_words.Tie as tie

@@ -1,5 +1,4 @@
 use borrow.Author.Needs.{needs}
-use native.Mathlib.Omega.{arith}
 use Rattle.job.specs.Layout.{slices}
 use Rattle.run_loop.specs.Running.{lentState}
 use Rattle.call_lists.proofs.CallLaws.{placed-so}

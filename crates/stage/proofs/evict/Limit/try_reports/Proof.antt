@@ -1,6 +1,6 @@
 -- The invariant: the walk over the reports still to come, from the cost and the holders so far, finds what the whole walk finds. Assumes nothing.
 use borrow.Author.Needs.{needs}
-use mathlib.Core.Path.{_≡_, refl, sym, ap, _∙_}
+use mathlib.Core.Path.{_≡_, refl, sym, _∙_}
 use mathlib.Core.Bool.{false}
 use lib.ListN.{length, length-set}
 use borrow.Author.Tests.{lt-ltb, le-ltb, not-true, not-false}
@@ -12,15 +12,6 @@ use Rattle.stage.specs.AllocateWalk.{reportsOn}
 use Rattle.stage.proofs.EvictLaws.{going-on, next-less, below-end, below-fixed, below-more, below-stop, below-far}
 use Rattle.stage.proofs.evict.Limit.try_reports.Statement.{statement}
 use Rattle.stage.proofs.evict.Limit.try_reports.Tie as tie
-use Rattle.stage.proofs.evict.Limit.try_reports.Reads as reads
-use Rattle.stage.proofs.evict.Limit.try_reports.Lts as lts
-use Rattle.lent.proofs.at_float.Reads as at-float-reads
-use Rattle.matrix.proofs.Cursor.next.Reads as next-reads
-use Rattle.matrix.proofs.check.enter.Reads as enter-reads
-use Rattle.records.proofs.words.held_at.Reads as held-at-reads
-use Rattle.stage.proofs.evict.can_win.Reads as can-win-reads
-use Rattle.stage.proofs.evict.nothing_tried.Reads as nothing-tried-reads
-use Rattle.stage.proofs.evict.with_holder.Reads as with-holder-reads
 
 abbrev Inv-loop : tie.InvT-loop
 Inv-loop self units words spills ends rests uses froms tos values t₀ c₀ t c = (length (t .holders) ≡ 512) × (t .«ruled_out» ≡ false) × (tryBelow self (heldIn words) spills (remaining (lent ends rests uses froms tos values) c) (t .cost) (t .«every_report») (t .holders) ≡ triedBelow self (heldIn words) spills (reportsOn (lent ends rests uses froms tos values) units))
