@@ -1,3 +1,4 @@
 pub mod WalkLaws
 pub mod LineLaws
 pub mod SheetLaws
+pub mod FewLines

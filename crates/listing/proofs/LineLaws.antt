@@ -108,12 +108,14 @@ most x y a b h k = omega (arith, h, k, length-append x y)
 spaced-most : (n : ℕ) → length (sp (number n)) ≤ 21
 spaced-most n = omega (arith, number-length n)
 
--- a refusal's line is the front of a line of 256 bytes
-pub refused-front : (s : List ℕ) (n : ℕ) → lineLimit ≤ length s → take (length (refusedLine n)) (sets s 0 (refusedLine n)) ≡ refusedLine n
+-- a line of 256 bytes has room for a refusal's line, which is then its front
+pub refused-room : (n : ℕ) → length (refusedLine n) ≤ lineLimit
 unfolding ascii
-refused-front s n h =
-    front s (refusedLine n)
-    (omega (arith, h, most (ascii "refused " ++ number n) (10 ∷ []) 28 1 (most (ascii "refused ") (number n) 8 20 (omega arith) (number-length n)) (omega arith)))
+refused-room n =
+    omega (arith, most (ascii "refused " ++ number n) (10 ∷ []) 28 1 (most (ascii "refused ") (number n) 8 20 (omega arith) (number-length n)) (omega arith))
+
+pub refused-front : (s : List ℕ) (n : ℕ) → lineLimit ≤ length s → take (length (refusedLine n)) (sets s 0 (refusedLine n)) ≡ refusedLine n
+refused-front s n h = front s (refusedLine n) (omega (arith, h, refused-room n))
 
 end-room : (w : Ending) (n : ℕ) → length (endLine w n) ≤ 256
 unfolding ascii

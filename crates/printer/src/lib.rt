@@ -1,4 +1,16 @@
-// Writes the sheet of a job's bytes to a descriptor, line by line. What is written is what the crate sheets says; here is only what moves it.
+// Writes the sheet of a job's bytes to a descriptor, line by line. What is written is what the crate sheets says; here is what moves it, and counts it.
+ghost use mathlib.Core.Path.{_≡_};
+ghost use mathlib.Core.Bool.{false};
+ghost use Prim.Native.Nat.{_≤_};
+ghost use lib.ListN.{length};
+ghost use Rattle.lent.specs.Parts.{part};
+ghost use Rattle.reg_matrix.specs.Refusals.{shortBuffer};
+ghost use Rattle.job.specs.Layout.{slices};
+ghost use Rattle.allocator.specs.Sheet.{printed};
+ghost use Rattle.run_loop.specs.Running.{lentState};
+ghost use Rattle.lines.specs.LineTexts.{lent};
+ghost use Rattle.sheets.specs.Printing.{sheetLimits, sheetSizes};
+ghost use Rattle.printer.specs.Writing.{WrittenOf, linesSize};
 use io::write_all;
 use job_sheet::begin;
 use lent::part8;
@@ -8,9 +20,27 @@ use listing::sheet::refused;
 use sheets::Printing;
 use sheets::sheet::next;
 
-// Writes the first n bytes of a line, and answers whether they were written.
-fn write_front(fd: i32, line: &[u8], n: usize) -> bool {
-    write_all(fd, part8(line, 0, n))
+// What was written: whether all of it, and of how many bytes the writes were that succeeded.
+pub struct Written {
+    pub whole: bool,
+    pub bytes: usize,
+}
+
+// Writes the first n bytes of a line. What a write that fails has taken is not counted.
+fn write_front(fd: i32, line: &[u8], n: usize) -> Written
+    ensures { λ r. ⌜ WrittenOf (length (part 0 n (now (line .entry)))) r ⌝ }
+{
+    let front = part8(line, 0, n);
+    if write_all(fd, front) {
+        return Written {
+            whole: true,
+            bytes: front.len(),
+        };
+    }
+    Written {
+        whole: false,
+        bytes: 0,
+    }
 }
 
 // Writes the lines of a sheet from a position on, up to the last or to a write that fails.
@@ -22,19 +52,31 @@ fn write_lines(
     rests: &[u64],
     words: &[u64],
     line: &mut [u8],
-) {
-    if line.len() < 256 {
-        return;
-    }
+) -> Written
+    requires { ⌜ 256 ≤ length (now line) ⌝ }
+    ensures { λ r. ⌜ WrittenOf (linesSize position (lent (now (maps .entry)) (now (ends .entry)) (now (rests .entry))) (now (words .entry))) r ⌝ }
+{
     let mut c = position;
+    let mut bytes: usize = 0;
     loop {
-        let Step::Line(n, after) = next(c, maps, ends, rests, words, line) else {
-            return;
-        };
-        if !write_front(fd, line, n) {
-            return;
+        match next(c, maps, ends, rests, words, line) {
+            Step::End => return Written { whole: true, bytes },
+            Step::Refused(_) => return Written {
+                whole: false,
+                bytes,
+            },
+            Step::Line(n, after) => {
+                let front = write_front(fd, line, n);
+                if !front.whole {
+                    return Written {
+                        whole: false,
+                        bytes,
+                    };
+                }
+                bytes += front.bytes;
+                c = after;
+            }
         }
-        c = after;
     }
 }
 
@@ -53,18 +95,24 @@ fn write_with(
     last: &mut [u8],
     words: &mut [u64],
     line: &mut [u8],
-) {
+) -> Written
+    requires { ⌜ (256 ≤ length (now line)) × (shortBuffer sheetLimits (sheetSizes (slices (now j64) (now j32) (now j16) (now j8) (now jf)) (lentState (now ends) (now rests) (now queue) (now last)) (now words)) ≡ false) ⌝ }
+    ensures { λ r. ⌜ WrittenOf (length (printed (now (s .entry)))) r ⌝ }
+{
     match begin(s, j64, j32, j16, j8, jf, ends, rests, queue, last, words) {
         Printing::Refused(n) => {
             let size = refused(n, line);
-            write_front(fd, line, size);
+            write_front(fd, line, size)
         }
         Printing::At(position) => write_lines(fd, position, j64, ends, rests, words, line),
     }
 }
 
-// Loads and runs the job of these bytes with the job's budget, and writes its sheet, or `refused N` alone. Every byte string has one.
-pub fn write_sheet(fd: i32, s: &[u8]) {
+// Loads and runs the job of these bytes with the job's budget, and writes its sheet, or `refused N` alone. Every byte string has one. Answers whether
+// all of it was written, which is then as long as the definition's, and how many bytes.
+pub fn write_sheet(fd: i32, s: &[u8]) -> Written
+    ensures { λ r. ⌜ WrittenOf (length (printed (now (s .entry)))) r ⌝ }
+{
     let mut j64 = [0u64; 576];
     let mut j32 = [0u32; 1536];
     let mut j16 = [0u16; 2067];
@@ -90,5 +138,5 @@ pub fn write_sheet(fd: i32, s: &[u8]) {
         &mut last,
         &mut words,
         &mut line,
-    );
+    )
 }

@@ -2,7 +2,7 @@
 use Prim.Native.Nat.{ℕ}
 use mathlib.Core.Path.{_≡_}
 use mathlib.Core.List.{List}
-use mathlib.Core.Bool.{Bool, true, false}
+use mathlib.Core.Bool.{false}
 use lib.ListN.{length}
 use lib.Seq.{sets}
 use Rattle.reg_matrix.specs.Lists.{concatMap}
@@ -11,32 +11,11 @@ use Rattle.job.specs.Layout.{JobSlices}
 use Rattle.allocator.specs.Layout.{StateBuffers}
 use Rattle.allocator.specs.Sheet.{sheetOf, printed}
 use Rattle.listing.specs.declared.Listing.{Listing}
-use Rattle.listing.specs.declared.Step.{Step}
-use Rattle.listing.specs.declared.Step.the-variants.{Line, End as NoMore, Refused as NotListed}
 use Rattle.lines.specs.LineTexts.{Lent}
 use Rattle.listing.specs.Walk.{linesFrom}
 use Rattle.records.specs.Words.{recordsIn}
 use Rattle.sheets.specs.declared.Printing.{Printing}
 use Rattle.sheets.specs.Printing.{sheetLimits, sheetSizes, loadedWith, Begun}
-
--- ---- an answer, part by part
-
-abbrev pub isLine : Step → Bool
-isLine (Line n after) = true
-isLine NoMore = false
-isLine (NotListed n) = false
-
-abbrev pub sizeOf : Step → ℕ
-sizeOf (Line n after) = n
-sizeOf NoMore = 0
-sizeOf (NotListed n) = 0
-
-abbrev pub afterOf : Listing → Step → Listing
-afterOf c (Line n after) = after
-afterOf c NoMore = c
-afterOf c (NotListed n) = c
-
--- ---- the contracts
 
 -- the lines from a position on, one after another
 abbrev pub linesText : Listing → Lent → List ℕ → List ℕ

@@ -1,12 +1,11 @@
 // The whole printed sheet of a job's bytes in one lent buffer (01, "The printed sheet"), for callers that have room for it.
-ghost use mathlib.Core.Path.{_≡_};
 ghost use Prim.Native.Nat.{_+_, _≤_, _<_};
 ghost use lib.ListN.{length};
 ghost use Rattle.job.specs.Layout.{slices};
 ghost use Rattle.run_loop.specs.Running.{lentState};
 ghost use Rattle.lines.specs.Texts.{Appended};
 ghost use Rattle.lines.specs.LineTexts.{lent};
-ghost use Rattle.printout.specs.Whole.{isLine, sizeOf, afterOf, LinesPrinted, Printed};
+ghost use Rattle.printout.specs.Whole.{LinesPrinted, Printed};
 use job_sheet::begin;
 use lent::at8;
 use lent::part8;
@@ -16,37 +15,6 @@ use listing::Step;
 use listing::sheet::refused;
 use sheets::Printing;
 use sheets::sheet::next;
-
-fn is_line(step: Step) -> bool
-    ensures { λ r. ⌜ r ≡ isLine step ⌝ }
-{
-    match step {
-        Step::Line(_, _) => true,
-        Step::End => false,
-        Step::Refused(_) => false,
-    }
-}
-
-fn size_of(step: Step) -> usize
-    ensures { λ r. ⌜ r ≡ sizeOf step ⌝ }
-{
-    match step {
-        Step::Line(n, _) => n,
-        Step::End => 0,
-        Step::Refused(_) => 0,
-    }
-}
-
-// The position after a line, or the one before it where there is none.
-fn after_of(step: Step, position: Listing) -> Listing
-    ensures { λ r. ⌜ r ≡ afterOf position step ⌝ }
-{
-    match step {
-        Step::Line(_, after) => after,
-        Step::End => position,
-        Step::Refused(_) => position,
-    }
-}
 
 // Stores a text from place `at` on, and gives the place after it.
 fn text(out: &mut [u8], at: usize, bytes: &[u8]) -> usize
@@ -77,12 +45,15 @@ fn print_from(
     let mut c = position;
     let mut at: usize = 0;
     loop {
-        let step = next(c, maps, ends, rests, words, line);
-        if !is_line(step) {
-            return at;
+        match next(c, maps, ends, rests, words, line) {
+            Step::End => return at,
+            // not met: the lent line has 256 bytes
+            Step::Refused(_) => return at,
+            Step::Line(n, after) => {
+                at = text(out, at, part8(line, 0, n));
+                c = after;
+            }
         }
-        at = text(out, at, part8(line, 0, size_of(step)));
-        c = after_of(step, c);
     }
 }
 

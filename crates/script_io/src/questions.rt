@@ -1,8 +1,17 @@
 // Questions, which change nothing: checks of segments on a register, and whether a unit is spare. A check's segments are structs in an array that
 // goes by value.
-ghost use Prim.Native.Nat.{_≤_};
+ghost use mathlib.Core.Path.{_≡_};
+ghost use mathlib.Core.List.{[], _∷_};
+ghost use Prim.Native.Nat.{_*_, _≤_};
+ghost use lib.ListN.{length};
+ghost use Rattle.reg_matrix.specs.Questions.{spareRefusal};
+ghost use Rattle.entries.specs.Moves.{words};
+ghost use Rattle.entries.specs.Placing.{freeAt, range, spareAnswer};
+ghost use Rattle.words.specs.Words.{cut};
+ghost use Rattle.script_io.specs.Reading.{Took, isWhole};
 use crate::input::read_number;
 use crate::output::print;
+use entries::UnitFree;
 use entries::unit_free::is_unit_free;
 use matrix::Cursor;
 use matrix::Start;
@@ -11,6 +20,9 @@ use reg_matrix::ValueSegment;
 use thin::lists::check_list;
 use thin::lists::next_in_list;
 use transcript::answers;
+use words::numbers::cut8;
+use words::numbers::cut16;
+use words::numbers::cut32;
 
 // One segment that was read, or that the script ended inside it.
 enum SegmentRead {
@@ -24,24 +36,10 @@ struct SegmentsRead {
     list: [ValueSegment; 255],
 }
 
-fn narrow32(x: u64) -> u32 {
-    if x <= 0xFFFF_FFFF {
-        x as u32
-    } else {
-        0xFFFF_FFFF
-    }
-}
-
-fn narrow16(x: u64) -> u16 {
-    if x <= 0xFFFF { x as u16 } else { 0xFFFF }
-}
-
-fn narrow8(x: u64) -> u8 {
-    if x <= 0xFF { x as u8 } else { 0xFF }
-}
-
-// Reads one segment.
-fn read_segment(left: &mut u64) -> SegmentRead {
+// Reads one segment, of ten bytes.
+fn read_segment(left: &mut u64) -> SegmentRead
+    ensures { λ r. ⌜ Took 10 (now (left .entry)) (now (left .exit)) (isWhole r) ⌝ }
+{
     let mut from: u64 = 0;
     let mut to: u64 = 0;
     let mut value: u64 = 0;
@@ -55,15 +53,16 @@ fn read_segment(left: &mut u64) -> SegmentRead {
         return SegmentRead::Cut;
     }
     SegmentRead::Is(ValueSegment {
-        from: narrow32(from),
-        to: narrow32(to),
-        value: narrow16(value),
+        from: cut32(from),
+        to: cut32(to),
+        value: cut16(value),
     })
 }
 
 // Reads n segments.
 fn read_segments(left: &mut u64, n: usize) -> SegmentsRead
     requires { ⌜ n ≤ 255 ⌝ }
+    ensures { λ r. ⌜ Took (10 * n) (now (left .entry)) (now (left .exit)) (r .whole) ⌝ }
 {
     let none = ValueSegment {
         from: 0,
@@ -147,7 +146,8 @@ fn check(
     }
 }
 
-// Reads the segments of a check and makes it, on one of the first `count` registers. Answers whether they were all there.
+// Reads the segments of a check, at most 255 of ten bytes each, and makes it, on one of the first `count` registers. Answers whether they were all
+// there.
 pub fn ask_check(
     left: &mut u64,
     reg: u64,
@@ -159,8 +159,10 @@ pub fn ask_check(
     rests: &[u64],
     uses: &[u64],
     line: &mut [u8],
-) -> bool {
-    let n = narrow8(segments) as usize;
+) -> bool
+    ensures { λ r. ⌜ Took (10 * cut 255 segments) (now (left .entry)) (now (left .exit)) r ⌝ }
+{
+    let n = cut8(segments) as usize;
     let read = read_segments(left, n);
     if !read.whole {
         return false;
@@ -170,9 +172,20 @@ pub fn ask_check(
     true
 }
 
-// Asks whether the unit is spare from `from` to `to`.
-pub fn ask_unit_free(unit: u64, from: u64, to: u64, ends: &[u64], rests: &[u64], line: &mut [u8]) {
-    let answer = is_unit_free(ends, rests, narrow8(unit), narrow32(from), narrow32(to));
+// Asks whether the unit is spare from `from` to `to`, prints what is answered, and answers it. A number that is too wide for its type is asked as the
+// greatest of the type.
+pub fn ask_unit_free(
+    unit: u64,
+    from: u64,
+    to: u64,
+    ends: &[u64],
+    rests: &[u64],
+    line: &mut [u8],
+) -> UnitFree
+    ensures { λ r. ⌜ r ≡ spareAnswer (spareRefusal (length (now (ends .entry)) ∷ length (now (rests .entry)) ∷ []) (cut 255 unit) (range (cut 0xFFFF_FFFF from) (cut 0xFFFF_FFFF to))) (freeAt (cut 255 unit) (cut 0xFFFF_FFFF from) (cut 0xFFFF_FFFF to) (words (now (ends .entry)) (now (rests .entry)))) ⌝ }
+{
+    let answer = is_unit_free(ends, rests, cut8(unit), cut32(from), cut32(to));
     let length = answers::unit_free_line(line, answer);
     print(line, length);
+    answer
 }

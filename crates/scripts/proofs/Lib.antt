@@ -1,1 +1,2 @@
 pub mod AnswerLines
+pub mod CallLaws

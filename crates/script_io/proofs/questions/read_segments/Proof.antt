@@ -1,16 +1,21 @@
+-- What was left is what is left now and ten bytes for each segment read so far. Assumes nothing.
 use borrow.Author.Needs.{needs}
-use Prim.Native.Nat.{_-_}
+use Prim.Native.Nat.{_-_, _+_, _*_, _≤_}
+use native.Mathlib.Omega.{arith}
+use mathlib.Core.Path.{_≡_, ap}
+use Rattle.script_io.specs.Reading.{isWhole}
+use Rattle.script_io.proofs.ReadLaws.{all-took, less-took}
 use Rattle.script_io.proofs.questions.read_segments.Statement.{statement}
 use Rattle.script_io.proofs.questions.read_segments.Tie as tie
 
 abbrev Inv-loop : tie.InvT-loop
-Inv-loop left₀ n list₀ i₀ left list i = Unit {0}
+Inv-loop left₀ n list₀ i₀ left list i = (i ≤ n) × (left + 10 * i ≡ left₀)
 
 abbrev μ-loop : tie.MeasureT-loop
 μ-loop left₀ n list₀ i₀ left list i = n - i
 
 loop-holds : tie.Need-loop-holds Inv-loop μ-loop
-loop-holds c = tt
+loop-holds c = (omega arith, omega arith)
 
 read-segment-requires : tie.Need-read-segment-requires Inv-loop μ-loop
 read-segment-requires c κs = search needs
@@ -22,7 +27,9 @@ enum-told : tie.Need-enum-told Inv-loop μ-loop
 enum-told c = search needs
 
 returns : tie.Need-returns Inv-loop μ-loop
-returns c = search needs
+returns c =
+    let k = c .before .before .read-segment .ensures in
+    less-took (omega (arith, k .never-more)) (omega (arith, k .cut-short (ap isWhole (c .enum-told .given .1))))
 
 mul-list : tie.Need-mul-list Inv-loop μ-loop
 mul-list c = search needs
@@ -37,10 +44,10 @@ loop-less : tie.Need-loop-less Inv-loop μ-loop
 loop-less c = search needs
 
 loop-again : tie.Need-loop-again Inv-loop μ-loop
-loop-again c = tt
+loop-again c = (omega arith, omega (arith, c .before .before .before .read-segment .ensures .all-there (ap isWhole (c .before .segment .given .1))))
 
 returns-2 : tie.Need-returns-2 Inv-loop μ-loop
-returns-2 c = search needs
+returns-2 c = all-took (omega arith)
 
 pub read-segments-spec : {M : Type 1} → statement M
 read-segments-spec =

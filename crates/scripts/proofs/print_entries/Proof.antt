@@ -2,20 +2,20 @@ use borrow.Author.Needs.{needs}
 use Prim.Native.Nat.{_-_}
 use mathlib.Core.Path.{_≡_, refl, _∙_}
 use lib.ListN.{length}
-use Rattle.script_io.proofs.output.print_records.Statement.{statement}
-use Rattle.script_io.proofs.output.print_records.Tie as tie
+use Rattle.scripts.proofs.print_entries.Statement.{statement}
+use Rattle.scripts.proofs.print_entries.Tie as tie
 
 abbrev Inv-loop : tie.InvT-loop
-Inv-loop n line₀ records v₀ line v = length line ≡ length line₀
+Inv-loop header maps ends rests line₀ i₀ line i = length line ≡ length line₀
 
 abbrev μ-loop : tie.MeasureT-loop
-μ-loop n line₀ records v₀ line v = n - v
+μ-loop header maps ends rests line₀ i₀ line i = 2560 - i
 
 loop-holds : tie.Need-loop-holds Inv-loop μ-loop
 loop-holds c = refl
 
-cast-i : tie.Need-cast-i Inv-loop μ-loop
-cast-i c = search needs
+entry-line-requires : tie.Need-entry-line-requires Inv-loop μ-loop
+entry-line-requires c κs = search needs
 
 same-length : tie.Need-same-length Inv-loop μ-loop
 same-length c = search needs
@@ -23,26 +23,17 @@ same-length c = search needs
 returns : tie.Need-returns Inv-loop μ-loop
 returns c = search needs
 
-mul-a : tie.Need-mul-a Inv-loop μ-loop
-mul-a c = search needs
-
-array-copy-out-a : tie.Need-array-copy-out-a Inv-loop μ-loop
-array-copy-out-a c = search needs
-
-record-line-requires : tie.Need-record-line-requires Inv-loop μ-loop
-record-line-requires c κs = search needs
-
 print-requires : tie.Need-print-requires Inv-loop μ-loop
 print-requires c κs = search needs
 
-add-v : tie.Need-add-v Inv-loop μ-loop
-add-v c = search needs
+add-i : tie.Need-add-i Inv-loop μ-loop
+add-i c = search needs
 
 loop-less : tie.Need-loop-less Inv-loop μ-loop
 loop-less c = search needs
 
 loop-again : tie.Need-loop-again Inv-loop μ-loop
-loop-again c = c .before .before .before .before .record-line .kept .0 ∙ c .before .before .before .before .before .before .before .before .before .loop .inv
+loop-again c = c .before .before .before .before .before .entry-line .kept .0 ∙ c .before .before .before .before .before .before .before .before .loop .inv
 
 same-length-2 : tie.Need-same-length-2 Inv-loop μ-loop
 same-length-2 c = search needs
@@ -50,21 +41,18 @@ same-length-2 c = search needs
 returns-2 : tie.Need-returns-2 Inv-loop μ-loop
 returns-2 c = search needs
 
-pub print-records-spec : {M : Type 1} → statement M
-print-records-spec =
+pub print-entries-spec : {M : Type 1} → statement M
+print-entries-spec =
     tie.close
     (tie.spec
     Inv-loop
     μ-loop
     loop-holds
-    cast-i
+    entry-line-requires
     same-length
     returns
-    mul-a
-    array-copy-out-a
-    record-line-requires
     print-requires
-    add-v
+    add-i
     loop-less
     loop-again
     same-length-2
