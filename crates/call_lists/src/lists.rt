@@ -111,8 +111,7 @@ impl ListedCall {
             last,
             &mut refusal,
         );
-        let value = reg_given(refusal, reg);
-        store_numbers(out, self.to, refusal, 0, value);
+        store_numbers(out, self.to, refusal, 0, reg_given(refusal, reg));
         after
     }
 
