@@ -36,7 +36,8 @@ use Rattle.allocator.proofs.Records.{held-record}
 use Rattle.stage.specs.AllocateWalk.{reportsOn}
 use Rattle.stage.proofs.Reached.{reports-are}
 use Rattle.stage.proofs.ReachedSearch.{map-read}
-use Rattle.decisions.specs.Deciding.{shareOf, lentTo, classIn}
+use Rattle.job_parts.specs.Shares.{shareOf, classIn}
+use Rattle.decisions.specs.Deciding.{lentTo}
 use Rattle.records.specs.Fields.{isHeld, regIn}
 use Rattle.context.specs.Standing.{JobReads, TableStands}
 use Rattle.context.proofs.Shares.{hint-regs-share}

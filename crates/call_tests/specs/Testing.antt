@@ -11,7 +11,7 @@ use Rattle.matrix.specs.Walk.{lent}
 use Rattle.allocator.specs.declared.Assignment.{Assignment}
 use Rattle.allocator.specs.declared.Assignment.the-variants.{Assigned, Unassigned, Dead}
 use Rattle.stage.specs.AllocateWalk.{reportsOn}
-use Rattle.decisions.specs.Deciding.{shareOf}
+use Rattle.job_parts.specs.Shares.{shareOf}
 use Rattle.records.specs.Fields.{isHeld}
 
 -- whether a record waits for a register

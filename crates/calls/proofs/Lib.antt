@@ -2,4 +2,3 @@ pub mod DirectLaws
 pub mod Traces
 pub mod RunCalls
 pub mod QuestionLaws
-pub mod StageLoads

@@ -1,4 +1,3 @@
 pub mod Calling
 pub mod Trace
 pub mod Asking
-pub mod StageLoading

@@ -2,14 +2,11 @@
 ghost use mathlib.Core.Path.{_≡_};
 ghost use mathlib.Core.Bool.{cond};
 ghost use mathlib.Core.List.{List};
-ghost use Prim.Native.Nat.{_<_};
 ghost use lib.Dec.{eqb};
-ghost use lib.Ieee.{binary32, ofBits};
 ghost use lib.ListN.{getD, set};
 ghost use Rattle.allocator.specs.declared.Assignment.{Assignment};
-ghost use Rattle.allocator.specs.declared.Assignment.the-variants.{Assigned, Unassigned, Dead};
+ghost use Rattle.allocator.specs.declared.Assignment.the-variants.{Dead};
 ghost use Rattle.job.specs.Layout.{slices};
-ghost use Rattle.records.specs.Fields.{flagIn};
 ghost use Rattle.run_loop.specs.Running.{lentState};
 ghost use Rattle.calls.specs.Calling.{placeAnswer, Placed, Evicted};
 use allocator::Assignment;
@@ -19,8 +16,9 @@ use call_tests::short_buffers;
 use context::carry::take;
 use context::carry::take_back;
 use job::JobHeader;
-use records::assignment::flag_of;
 use records::assignment::reg_of;
+use records::changes::placed;
+use records::changes::waiting;
 
 // The record of v. A number above 511 has none.
 fn record_at(records: [Assignment; 512], v: u16) -> Assignment
@@ -46,41 +44,10 @@ fn with_record(records: [Assignment; 512], v: u16, a: Assignment) -> [Assignment
     all
 }
 
-// The weight of these bits. Test 9 lets no others through.
-fn weight_of(bits: u32) -> f32
-    ensures { λ r. ⌜ (bits < 0x7F80_0000 → r ≡ ofBits binary32 bits) ⌝ }
-{
-    if 0x7F80_0000 <= bits {
-        return 0.0;
-    }
-    f32::from_bits(bits)
-}
-
 fn wide(x: u8) -> u64
     ensures { λ r. ⌜ r ≡ x ⌝ }
 {
     x as u64
-}
-
-// The record of a number that takes the register with the weight of these bits. It keeps its flag.
-fn placed(before: Assignment, reg: u8, weight: u32) -> Assignment
-    ensures { λ r. ⌜ (weight < 0x7F80_0000 → r ≡ Assigned (flagIn before) reg (ofBits binary32 weight)) ⌝ }
-{
-    let flag = flag_of(before);
-    Assignment::Assigned {
-        evicted_for_preference: flag,
-        reg,
-        preference_weight: weight_of(weight),
-    }
-}
-
-// The record of a number that loses its register. It keeps its flag.
-fn waiting(before: Assignment) -> Assignment
-    ensures { λ r. ⌜ r ≡ Unassigned (flagIn before) ⌝ }
-{
-    Assignment::Unassigned {
-        evicted_for_preference: flag_of(before),
-    }
 }
 
 // What a direct call answers: the number of its refusal or 0, the register given or taken away or 0, and the record of its number afterwards.

@@ -1,25 +1,13 @@
 // A run as a call of its own: `Allocator::run` (`allocator/mod.rs`), with a budget.
-ghost use mathlib.Core.Path.{_≡_};
 ghost use Rattle.job.specs.Layout.{slices};
-ghost use Rattle.run_loop.specs.Running.{lentState, endingNumber};
+ghost use Rattle.run_loop.specs.Running.{lentState};
 ghost use Rattle.calls.specs.Calling.{RunCalled};
 use allocator::Assignment;
-use allocator::Ending;
 use call_tests::short_buffers;
 use records::words::read;
 use records::words::store;
+use run_loop::ending_number;
 use run_loop::run_on;
-
-// The number of a run's word.
-pub fn ending_number(ending: Ending) -> u64
-    ensures { λ r. ⌜ r ≡ endingNumber ending ⌝ }
-{
-    match ending {
-        Ending::Done => 1,
-        Ending::Spent => 2,
-        Ending::TooMany => 3,
-    }
-}
 
 // Runs with a budget. The answer is 0, or 15 where a buffer is short, and then nothing is changed. `ending` takes the word's number, 1 for done, 2
 // for spent and 3 for toomany, and `dequeues` how many were made; both are 0 where the run is refused. What returns is the records afterwards. In

@@ -44,7 +44,8 @@ use Rattle.records.specs.Words.{recordWord, recordIn, PlainRecord, WordsOf}
 use Rattle.records.proofs.WordLaws.{word-read, word-set as record-set}
 use Rattle.records.proofs.PlainRecords.{records-length}
 use Rattle.stage.proofs.ReachedSearch.{record-read}
-use Rattle.decisions.specs.Deciding.{shareOf, members, fromsIn, tosIn}
+use Rattle.job_parts.specs.Shares.{shareOf, fromsIn, tosIn}
+use Rattle.decisions.specs.Deciding.{members}
 use Rattle.records.specs.Fields.{flagIn, isHeld, regIn, recordWeight}
 use Rattle.context.specs.Carrying.{wideLists, EvictReads, TakeReads, keyIn, TakenBack, EvictedAll, Taken}
 use Rattle.allocator.specs.Dequeue.{evictAll}

@@ -38,7 +38,8 @@ use Rattle.order.proofs.OrderLaws.{all-hints, hinted-is, offers-all}
 use Rattle.stage.proofs.Reached.{LaidOut}
 use Rattle.stage.proofs.ReachedSearch.{ownHinted, hinted-small, order-small, SearchLent, spill-read, record-read, byAvailable, decide-found, BestIs, eviction-found, PreferredIs, preferred-found}
 use Rattle.decisions.specs.declared.Fate.the-variants.{Takes, Splits, Fails}
-use Rattle.decisions.specs.Deciding.{members, decisionOf, decided, without, lastIn, preferredOr, clearIn, evictedOr, noneClearIn, foundIn, inOrder, lentTo, classIn, hintedIn, decidedIn}
+use Rattle.job_parts.specs.Shares.{classIn}
+use Rattle.decisions.specs.Deciding.{members, decisionOf, decided, without, lastIn, preferredOr, clearIn, evictedOr, noneClearIn, foundIn, inOrder, lentTo, hintedIn, decidedIn}
 use Rattle.records.specs.Fields.{flagIn, recordWeight}
 use Rattle.context.specs.Standing.{JobReads, TableStands}
 use Rattle.records.specs.Words.{recordIn, heldIn, WordsOf}

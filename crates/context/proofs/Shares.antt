@@ -16,7 +16,7 @@ use Rattle.job.specs.declared.Hint.{Hint}
 use Rattle.job.specs.Model.{Job, VirtReg, noVirtReg, virtReg, segmentsOf, zeroWeight}
 use Rattle.job.specs.Layout.{startsFrom, jobBuffers}
 use Rattle.job.proofs.Premises.{IsNumber}
-use Rattle.decisions.specs.Deciding.{shareOf}
+use Rattle.job_parts.specs.Shares.{shareOf}
 
 -- the middle of three parts
 middle : {C : Type 0} (ps os rest : List C) (a b : ℕ) → length ps ≡ a → a + length os ≡ b → part a b (ps ++ (os ++ rest)) ≡ os

@@ -26,7 +26,8 @@ use Rattle.stage.specs.declared.allocate.Best.{Best}
 use Rattle.stage.specs.declared.allocate.Available.{Available}
 use Rattle.stage.specs.declared.allocate.Available.the-variants.{Clear, NoneClear, NoCandidates}
 use Rattle.order.proofs.OrderLaws.{hinted-is}
-use Rattle.decisions.specs.Deciding.{shareOf, Leaves, Takes, Evicts, Splits, Fails, decided, without, lastIn, preferredOr, clearIn, evictedOr, noneClearIn, foundIn, inOrder, hintedIn}
+use Rattle.job_parts.specs.Shares.{shareOf}
+use Rattle.decisions.specs.Deciding.{Leaves, Takes, Evicts, Splits, Fails, decided, without, lastIn, preferredOr, clearIn, evictedOr, noneClearIn, foundIn, inOrder, hintedIn}
 
 -- ---- the register last given to a set, by its word
 

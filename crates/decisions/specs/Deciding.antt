@@ -1,15 +1,15 @@
 -- A dequeue's decision in the shape of the code, over what is lent. Laws in proofs/ and in context/proofs tie it to Dequeue.antt. Assumes nothing.
-use Prim.Native.Nat.{ℕ, _+_, _-_}
+use Prim.Native.Nat.{ℕ, _-_}
 use mathlib.Core.List.{List, []}
 use mathlib.Core.Bool.{Bool, true, false, not, _&&_, cond}
 use lib.Dec.{eqb}
 use lib.Ieee.{Float, lt, eq}
 use lib.ListN.{getD, replicate}
-use Rattle.lent.specs.Parts.{part}
 use Rattle.reg_matrix.specs.Lists.{filter, count}
 use Rattle.matrix.specs.Walk.{Lent, lent}
 use Rattle.job.specs.Model.{zeroWeight}
 use Rattle.job.specs.Layout.{JobBuffers}
+use Rattle.job_parts.specs.Shares.{shareOf, fromsIn, tosIn, valuesIn, classIn}
 use Rattle.allocator.specs.declared.CandidateReg.{CandidateReg}
 use Rattle.allocator.specs.declared.Stage.{Stage}
 use Rattle.allocator.specs.declared.Stage.the-variants.{Evict, Split}
@@ -26,11 +26,6 @@ use Rattle.stage.specs.declared.allocate.Available.the-variants.{Clear, NoneCle
 pub use Rattle.decisions.specs.declared.Fate.{Fate}
 pub use Rattle.decisions.specs.declared.Fate.the-variants.{Leaves, Takes, Evicts, Splits, Fails}
 pub use Rattle.decisions.specs.declared.Decided.{Decided}
-
--- the part of a list that is n's own, by where it begins and where it ends
-module _ {A : Type 0} where
-  unfoldable pub shareOf : List ℕ → ℕ → List A → List A
-  shareOf starts n xs = part (getD starts n 0) (getD starts (n + 1) 0) xs
 
 -- ---- the decision that the code's answer stands for
 
@@ -89,23 +84,9 @@ inOrder W maps ws ss hs class flag own q =
 
 -- ---- over the job's buffers B, the table's, the last registers and the weights held
 
--- where the segments of v start and end, and their values
-abbrev pub fromsIn : JobBuffers → ℕ → List ℕ
-fromsIn B v = shareOf (B .segmentStarts) v (B .froms)
-
-abbrev pub tosIn : JobBuffers → ℕ → List ℕ
-tosIn B v = shareOf (B .segmentStarts) v (B .tos)
-
-abbrev pub valuesIn : JobBuffers → ℕ → List ℕ
-valuesIn B v = shareOf (B .segmentStarts) v (B .values)
-
 -- what a check of the segments of v is lent
 abbrev pub lentTo : JobBuffers → List ℕ → List ℕ → ℕ → Lent
 lentTo B ends rests v = lent ends rests (B .fixedUses) (fromsIn B v) (tosIn B v) (valuesIn B v)
-
--- the registers of the class of v
-abbrev pub classIn : JobBuffers → ℕ → List ℕ
-classIn B v = shareOf (B .classStarts) (getD (B .classes) v 0) (B .classRegs)
 
 unfoldable pub hintedIn : JobBuffers → List ℕ → ℕ → List CandidateReg
 hintedIn B last v =

@@ -13,13 +13,8 @@ ghost use Rattle.records.specs.Fields.{flagIn};
 ghost use Rattle.records.specs.Words.{recordIn, heldIn};
 ghost use Rattle.order.specs.OrderWalk.{Computed, offersFrom};
 ghost use Rattle.stage.specs.AllocateWalk.{availableIn, evictIn, noBest};
-ghost use Rattle.decisions.specs.Deciding.{Takes, Evicts, decided, without, lastIn, clearIn, noneClearIn, inOrder, lentTo, classIn, hintedIn, decidedIn};
-use crate::parts::class_of;
-use crate::parts::froms_of;
-use crate::parts::of_float;
-use crate::parts::of8;
-use crate::parts::tos_of;
-use crate::parts::values_of;
+ghost use Rattle.job_parts.specs.Shares.{classIn};
+ghost use Rattle.decisions.specs.Deciding.{Takes, Evicts, decided, without, lastIn, clearIn, noneClearIn, inOrder, lentTo, hintedIn, decidedIn};
 use allocator::CandidateReg;
 use allocator::Stage;
 use job::HINT_REGS;
@@ -27,6 +22,12 @@ use job::HINT_STARTS;
 use job::HINT_WEIGHTS;
 use job::SETS;
 use job::USES;
+use job_parts::class_of;
+use job_parts::froms_of;
+use job_parts::of_float;
+use job_parts::of8;
+use job_parts::tos_of;
+use job_parts::values_of;
 use lent::at;
 use lent::at_float;
 use lent::at8;
@@ -46,8 +47,6 @@ use stage::allocate::Best;
 use stage::allocate::find_available_reg;
 use stage::allocate::try_evict;
 use stage::allocate::try_evict_for_preferred_reg;
-
-pub mod parts;
 
 // What becomes of a number that is dequeued: it is left over; it takes a register that is clear; it takes one after evicting its holders; it goes back
 // to the queue at stage Split; or the run ends, as too many are live.

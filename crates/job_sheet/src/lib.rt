@@ -2,10 +2,10 @@
 ghost use Rattle.job.specs.Layout.{slices};
 ghost use Rattle.run_loop.specs.Running.{lentState};
 ghost use Rattle.sheets.specs.Printing.{Begun};
-use calls::loads::load;
 use loader::load::JobLoaded;
 use sheets::Printing;
 use sheets::sheet::run_loaded;
+use stage_loader::load;
 
 // Loads the job of these bytes into what is lent, runs it with its budget, and answers the position before the first line of its sheet, whose records
 // stand in the words. Tests 15 for the words too. A refusal answers its number, and everything is as it was: `refused N` is all that is printed then.

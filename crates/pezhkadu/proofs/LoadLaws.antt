@@ -14,7 +14,7 @@ use Rattle.allocator.specs.Calls.{load}
 use Rattle.loader.specs.declared.load.JobLoaded.{JobLoaded}
 use Rattle.loader.specs.declared.load.JobLoaded.the-variants.{Is, Refused}
 use Rattle.calls.specs.Calling.{sizesOf}
-use Rattle.calls.specs.StageLoading.{StageLoadParts, StageLoadDone}
+use Rattle.stage_loader.specs.StageLoading.{StageLoadParts, StageLoadDone}
 use Rattle.records.specs.Fields.{firstRecords}
 use Rattle.records.specs.Words.{recordWord}
 use Rattle.words.specs.Words.{wordsShort, headerWords}

@@ -27,9 +27,9 @@ use Rattle.allocator.specs.Calls.{load}
 use Rattle.allocator.proofs.Good.{good-reached, reached-fresh}
 use Rattle.loader.specs.declared.load.JobLoaded.the-variants.{Is}
 use Rattle.calls.specs.Calling.{sizesOf, StateStands}
-use Rattle.calls.specs.StageLoading.{StageLoadParts, StageLoadDone}
+use Rattle.stage_loader.specs.StageLoading.{StageLoadParts, StageLoadDone}
 use Rattle.records.specs.Fields.{firstRecords}
-use Rattle.calls.proofs.StageLoads.{just-loaded}
+use Rattle.stage_loader.proofs.StageLoads.{just-loaded}
 use Rattle.records.specs.Words.{recordWord, recordIn, recordsIn}
 use Rattle.records.proofs.WordLaws.{first-word}
 use Rattle.words.specs.Words.{probeWords, headerWords, probeIn, headerIn}

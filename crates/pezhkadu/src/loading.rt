@@ -2,10 +2,10 @@
 ghost use Rattle.job.specs.Layout.{slices};
 ghost use Rattle.run_loop.specs.Running.{lentState};
 ghost use Rattle.pezhkadu.specs.Loading.{LoadCalled};
-use calls::loads::load;
 use loader::load::JobLoaded;
 use records::first_records;
 use records::words::store;
+use stage_loader::load;
 use words::header::short_words;
 use words::header::store_header;
 use words::numbers::wide;

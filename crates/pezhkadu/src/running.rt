@@ -3,9 +3,9 @@ ghost use Rattle.job.specs.Layout.{slices};
 ghost use Rattle.run_loop.specs.Running.{lentState};
 ghost use Rattle.pezhkadu.specs.Calling.{RunCalled};
 use call_tests::short_buffers;
-use calls::runs::ending_number;
 use lent::put;
 use records::words::renew;
+use run_loop::ending_number;
 use run_loop::run_on;
 
 // Runs with a budget of so many dequeues. The answer takes the number of the run's word, 1 for done, 2 for spent and 3 for toomany, and how many

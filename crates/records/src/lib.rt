@@ -4,6 +4,7 @@ ghost use Rattle.records.specs.Fields.{firstRecords};
 use allocator::Assignment;
 
 pub mod assignment;
+pub mod changes;
 pub mod words;
 
 // The initial standing of all virtual registers: unassigned, with the flag off.

@@ -31,7 +31,8 @@ use Rattle.records.specs.Words.{recordIn, heldIn, WordsOf}
 use Rattle.decisions.specs.declared.Fate.{Fate}
 use Rattle.decisions.specs.declared.Fate.the-variants.{Leaves, Takes, Evicts, Splits, Fails}
 use Rattle.decisions.specs.declared.Decided.{Decided}
-use Rattle.decisions.specs.Deciding.{decisionBy, decisionOf, classIn, decidedIn}
+use Rattle.job_parts.specs.Shares.{classIn}
+use Rattle.decisions.specs.Deciding.{decisionBy, decisionOf, decidedIn}
 use Rattle.context.specs.Standing.{Stands}
 use Rattle.context.specs.Carrying.{wideLists, CarriedOut}
 use Rattle.context.proofs.CarryLaws.{evict-reads, take-reads}

@@ -1,7 +1,7 @@
 // A run with a budget (`Allocator::run`): dequeues, the greatest key first, until nobody waits, the budget is spent, or too many are live.
 ghost use mathlib.Core.Path.{_≡_};
 ghost use Rattle.job.specs.Layout.{slices, listsIn};
-ghost use Rattle.run_loop.specs.Running.{lentState, isFails, DequeueMade, RunMade};
+ghost use Rattle.run_loop.specs.Running.{lentState, endingNumber, isFails, DequeueMade, RunMade};
 use allocator::Ending;
 use allocator::Stage;
 use context::carry::carry_out;
@@ -20,6 +20,17 @@ fn ended(ending: Ending, dequeues: u64) -> RunEnd
     ensures { λ r. ⌜ r ≡ record { ending = ending; dequeues = dequeues } ⌝ }
 {
     RunEnd { ending, dequeues }
+}
+
+// The number of a run's word.
+pub fn ending_number(ending: Ending) -> u64
+    ensures { λ r. ⌜ r ≡ endingNumber ending ⌝ }
+{
+    match ending {
+        Ending::Done => 1,
+        Ending::Spent => 2,
+        Ending::TooMany => 3,
+    }
 }
 
 // Whether a decision ends the run.

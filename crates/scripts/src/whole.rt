@@ -1,7 +1,6 @@
 // A whole script: its length, its job, its calls.
 ghost use Prim.Native.Nat.{_≤_};
 use crate::make_calls;
-use calls::loads::load;
 use lent::part8;
 use loader::load::JobLoaded;
 use script_io::input::least;
@@ -10,6 +9,7 @@ use script_io::input::read_number;
 use script_io::input::read_some;
 use script_io::input::skip;
 use script_io::output::print;
+use stage_loader::load;
 use transcript::answers;
 
 // Reads a job of `length` bytes: the first 32,769 are kept, one more than a job may have, and the others are read and forgotten. Answers whether

@@ -29,9 +29,9 @@ use Rattle.context.specs.Standing.{JobStands, Stands}
 use Rattle.run_loop.specs.declared.RunEnd.{RunEnd}
 use Rattle.run_loop.specs.Running.{lentState, LentTo, RunMade}
 use Rattle.calls.specs.Calling.{sizesOf}
-use Rattle.calls.specs.StageLoading.{laterState, laterJob, StageLoadParts, StageLoadDone}
+use Rattle.stage_loader.specs.StageLoading.{laterState, laterJob, StageLoadParts, StageLoadDone}
 use Rattle.records.specs.Fields.{firstRecords}
-use Rattle.calls.proofs.StageLoads.{append-short, behindState, laid-state, laid-job, same-header, records-first}
+use Rattle.stage_loader.proofs.StageLoads.{append-short, behindState, laid-state, laid-job, same-header, records-first}
 use Rattle.listing.specs.declared.Listing.{Listing}
 use Rattle.lines.specs.LineTexts.{lent}
 use Rattle.listing.proofs.SheetLaws.{Laid, reached-sheet}

@@ -22,7 +22,7 @@ use Rattle.allocator.specs.Sheet.{sheetOf, printed}
 use Rattle.run_loop.specs.declared.RunEnd.{RunEnd}
 use Rattle.run_loop.specs.Running.{RunMade}
 use Rattle.calls.specs.Calling.{sizesOf}
-use Rattle.calls.specs.StageLoading.{laterJob}
+use Rattle.stage_loader.specs.StageLoading.{laterJob}
 use Rattle.records.specs.Fields.{firstRecords}
 use Rattle.listing.specs.declared.Listing.{Listing}
 use Rattle.listing.specs.declared.Place.the-variants.{Head}

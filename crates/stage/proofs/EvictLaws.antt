@@ -21,14 +21,10 @@ use Rattle.job.specs.Model.{Job, zeroWeight}
 use Rattle.allocator.specs.State.{State, heldBy, weightOf}
 use Rattle.allocator.specs.Evict.{cheaper, ruledOut, isFixed, holder, holders, firsts, maxWeight, spillWeight, weights, greatestSpill, costOf}
 use Rattle.allocator.specs.declared.EvictCost.{EvictCost}
-use Rattle.stage.specs.EvictWalk.{weightIn, holderCost, zeroCost, tried, onKind, tryReports, triedOf, canWin, withHolder, tryBelow}
+use Rattle.evict_costs.specs.Costs.{withHolder}
+use Rattle.stage.specs.EvictWalk.{weightIn, holderCost, zeroCost, tried, onKind, tryReports, triedOf, canWin, tryBelow}
 use Rattle.stage.specs.declared.evict.Tried.{Tried}
 use Rattle.stage.specs.declared.evict.Limit.{Limit}
-
--- of equal preference sums, the spill maximum decides
-pub cheaper-tie : (a b : EvictCost) → lt (a .«preference_weight») (b .«preference_weight») ≡ false → eq (a .«preference_weight») (b .«preference_weight») ≡ true
-    → lt (a .«spill_weight») (b .«spill_weight») ≡ cheaper a b
-cheaper-tie a b l e = rw (l, e)
 
 -- ---- who was seen
 

@@ -40,7 +40,8 @@ use Rattle.allocator.proofs.Capacity.{hinted-length, held-plain, spill-plain}
 use Rattle.allocator.proofs.Rebuilt.{named-known}
 use Rattle.allocator.proofs.Good.{Good}
 use Rattle.allocator.proofs.Records.{held-record}
-use Rattle.stage.specs.EvictWalk.{weightIn, mayEvict, triedOf}
+use Rattle.evict_costs.specs.Costs.{mayEvict}
+use Rattle.stage.specs.EvictWalk.{weightIn, triedOf}
 use Rattle.records.specs.Fields.{recordWeight}
 use Rattle.stage.specs.AllocateWalk.{reportsOn, clearOn, noneOf, availableIn, noBest, taking, triedOn, improves, betterIn, evictIn, prefers, preferIn}
 use Rattle.stage.specs.declared.evict.Tried.{Tried}

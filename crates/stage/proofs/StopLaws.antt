@@ -21,7 +21,8 @@ use Rattle.allocator.specs.declared.CandidateReg.{CandidateReg}
 use Rattle.allocator.specs.declared.EvictCost.{EvictCost}
 use Rattle.allocator.specs.Evict.{cheaper, maxWeight}
 use Rattle.allocator.proofs.Weights.{signed, plain-zero, plain-cond, plain-add}
-use Rattle.stage.specs.EvictWalk.{addHolder, mayEvict, weightIn, zeroCost, tried, onKind, tryReports, triedOf, canWin, withHolder, tryBelow, triedBelow}
+use Rattle.evict_costs.specs.Costs.{addHolder, mayEvict, withHolder}
+use Rattle.stage.specs.EvictWalk.{weightIn, zeroCost, tried, onKind, tryReports, triedOf, canWin, tryBelow, triedBelow}
 use Rattle.stage.specs.AllocateWalk.{taking, improves, prefers, byCost, byWeight}
 use Rattle.stage.specs.declared.evict.Tried.{Tried}
 use Rattle.stage.specs.declared.evict.Limit.{Limit}

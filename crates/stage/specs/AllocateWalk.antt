@@ -12,7 +12,8 @@ use Rattle.allocator.specs.declared.CandidateReg.{CandidateReg}
 use Rattle.allocator.specs.Order.{candidate}
 use Rattle.allocator.specs.Evict.{cheaper, infinite}
 use Rattle.allocator.specs.declared.EvictCost.{EvictCost}
-use Rattle.stage.specs.EvictWalk.{mayEvict, zeroCost, triedBelow}
+use Rattle.evict_costs.specs.Costs.{mayEvict}
+use Rattle.stage.specs.EvictWalk.{zeroCost, triedBelow}
 use Rattle.stage.specs.declared.evict.Tried.{Tried}
 use Rattle.stage.specs.declared.evict.Limit.{Limit}
 use Rattle.stage.specs.declared.allocate.Best.{Best}

@@ -10,16 +10,11 @@ use Rattle.reg_matrix.specs.declared.Interference.{Interference}
 use Rattle.reg_matrix.specs.declared.InterferenceKind.{InterferenceKind}
 use Rattle.reg_matrix.specs.declared.InterferenceKind.the-variants.{Fixed, VirtReg}
 use Rattle.job.specs.Model.{zeroWeight}
-use Rattle.allocator.specs.Evict.{maxWeight, cheaper}
+use Rattle.allocator.specs.Evict.{cheaper}
 use Rattle.allocator.specs.declared.EvictCost.{EvictCost}
+use Rattle.evict_costs.specs.Costs.{addHolder, mayEvict, withHolder}
 use Rattle.stage.specs.declared.evict.Tried.{Tried}
 use Rattle.stage.specs.declared.evict.Limit.{Limit}
-
-abbrev pub addHolder : EvictCost → Float → Float → EvictCost
-addHolder k w s = record { «preference_weight» = add binary32 (k .«preference_weight») w; «spill_weight» = maxWeight (k .«spill_weight») s }
-
-abbrev pub mayEvict : Float → Bool → Float → Float → Bool
-mayEvict w flag spill own = lt spill own || (not flag && not (eq w zeroWeight))
 
 -- the weight with which v holds its register, by the weights held
 abbrev pub weightIn : List Float → ℕ → Float
@@ -59,10 +54,6 @@ triedOf ws ss xs = tryReports ws ss xs zeroCost zeroWeight (replicate 512 false)
 -- best; or that the sum is below its weight
 abbrev pub canWin : Limit → EvictCost → Float → Bool
 canWin l k w = cond (l .«by_cost») (mayEvict (l .weight) (l .flag) (k .«spill_weight») (l .own) && cheaper k (l .best)) (lt w (l .weight))
-
--- the cost with a holder that was seen before or not
-abbrev pub withHolder : EvictCost → Bool → Float → Float → EvictCost
-withHolder k seen w s = cond seen k (addHolder k w s)
 
 -- the same walk, which ends where the candidate can no longer win; laws in proofs/StopLaws.antt say that this changes nothing
 unfoldable pub tryBelow : Limit → List Float → List Float → List Interference → EvictCost → Float → List Bool → Tried

@@ -1,14 +1,16 @@
-// Costs of an eviction (`evict.rs`): two weights held together and replaced together.
+// What a check's reports say of evicting a candidate's holders (`evict.rs`).
 ghost use mathlib.Core.Path.{_≡_};
 ghost use mathlib.Core.Bool.{false};
 ghost use lib.ListN.{replicate};
 ghost use Rattle.job.specs.Model.{zeroWeight};
-ghost use Rattle.allocator.specs.Evict.{maxWeight, cheaper};
 ghost use Rattle.records.specs.Words.{heldIn};
 ghost use Rattle.matrix.specs.Walk.{lent};
-ghost use Rattle.stage.specs.EvictWalk.{addHolder, mayEvict, canWin, withHolder, zeroCost, tried, triedBelow};
+ghost use Rattle.stage.specs.EvictWalk.{canWin, zeroCost, tried, triedBelow};
 ghost use Rattle.stage.specs.AllocateWalk.{reportsOn};
 use allocator::EvictCost;
+use evict_costs::is_cheaper;
+use evict_costs::may_evict;
+use evict_costs::with_holder;
 use lent::at_float;
 use matrix::Step;
 use matrix::check::enter;
@@ -34,50 +36,6 @@ pub struct Limit {
     pub best: EvictCost,
 }
 
-// The heavier of two weights.
-pub fn heavier(a: f32, b: f32) -> f32
-    ensures { λ r. ⌜ r ≡ maxWeight a b ⌝ }
-{
-    if a < b { b } else { a }
-}
-
-// The cost with one holder more.
-pub fn add_holder(cost: EvictCost, held: f32, spill: f32) -> EvictCost
-    ensures { λ r. ⌜ r ≡ addHolder cost held spill ⌝ }
-{
-    EvictCost {
-        preference_weight: cost.preference_weight + held,
-        spill_weight: heavier(cost.spill_weight, spill),
-    }
-}
-
-// Whether the first cost is less: the preference sum first, then the spill maximum.
-pub fn is_cheaper(a: EvictCost, b: EvictCost) -> bool
-    ensures { λ r. ⌜ r ≡ cheaper a b ⌝ }
-{
-    if a.preference_weight < b.preference_weight {
-        return true;
-    }
-    if a.preference_weight == b.preference_weight {
-        a.spill_weight < b.spill_weight
-    } else {
-        false
-    }
-}
-
-// Whether a candidate of this weight may evict holders of this spill weight for a number with this flag and spill weight.
-pub fn may_evict(weight: f32, flag: bool, spill: f32, own: f32) -> bool
-    ensures { λ r. ⌜ r ≡ mayEvict weight flag spill own ⌝ }
-{
-    if spill < own {
-        return true;
-    }
-    if flag {
-        return false;
-    }
-    if weight == 0.0 { false } else { true }
-}
-
 // Whether a candidate may still win at this cost and with this sum at every report.
 pub fn can_win(limit: Limit, cost: EvictCost, every_report: f32) -> bool
     ensures { λ r. ⌜ r ≡ canWin limit cost «every_report» ⌝ }
@@ -90,16 +48,6 @@ pub fn can_win(limit: Limit, cost: EvictCost, every_report: f32) -> bool
         return false;
     }
     every_report < limit.weight
-}
-
-// The cost with a holder more, if it was not seen before.
-fn with_holder(cost: EvictCost, seen: bool, held: f32, spill: f32) -> EvictCost
-    ensures { λ r. ⌜ r ≡ withHolder cost seen held spill ⌝ }
-{
-    if seen {
-        return cost;
-    }
-    add_holder(cost, held, spill)
 }
 
 // Nothing reported yet.
