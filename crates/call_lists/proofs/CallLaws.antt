@@ -22,7 +22,8 @@ use Rattle.allocator.specs.Run.{run}
 use Rattle.allocator.specs.Calls.{placing, evicting, running, unknownNumber, named, badWeight, refusalOf, accepted, orRefused, answerOf}
 use Rattle.run_loop.specs.Running.{endingNumber}
 use Rattle.calls.specs.Calling.{refusalNumber, valueNumber, sizesOf, Placed, Evicted, RunCalled}
-use Rattle.call_lists.specs.Listed.{capped, callOf, wordNumber, CallAnswered}
+use Rattle.narrow.specs.Cut.{cut}
+use Rattle.call_lists.specs.Listed.{callOf, wordNumber, CallAnswered}
 
 -- ---- what a refusal's number is
 
@@ -101,7 +102,7 @@ numbers-running j s l b n e x is nothing so = go (shortBuffer stageLimits l) is
 module _ (header : JobHeader) (B : JobSlices) (S : StateBuffers) (rs : List Assignment) (S′ : StateBuffers) (rs′ : List Assignment) (kind number reg weight : ℕ) where
   pub placed-so :
       kind ≡ 1
-      → (v : ℕ) → v ≡ capped 65535 number → (r : ℕ) → r ≡ capped 255 reg → (w : ℕ) → w ≡ capped 0xFFFF_FFFF weight
+      → (v : ℕ) → v ≡ cut 65535 number → (r : ℕ) → r ≡ cut 255 reg → (w : ℕ) → w ≡ cut 0xFFFF_FFFF weight
       → (n : ℕ) → Placed header B v r w S rs S′ rs′ n
       → (x : ℕ) → x ≡ cond (eqb n 0) r 0
       → CallAnswered header B (callOf (sizesOf B S) kind number reg weight) S rs S′ rs′ n 0 x
@@ -117,7 +118,7 @@ module _ (header : JobHeader) (B : JobSlices) (S : StateBuffers) (rs : List Assi
 
   pub evicted-so :
       kind ≡ 2
-      → (v : ℕ) → v ≡ capped 65535 number
+      → (v : ℕ) → v ≡ cut 65535 number
       → (n x : ℕ) → Evicted header B v S rs S′ rs′ n x
       → CallAnswered header B (callOf (sizesOf B S) kind number reg weight) S rs S′ rs′ n 0 x
   unfolding callOf

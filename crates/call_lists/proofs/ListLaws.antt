@@ -23,7 +23,8 @@ use Rattle.allocator.proofs.Good.{reached-after}
 use Rattle.context.specs.Standing.{JobStands}
 use Rattle.calls.specs.Calling.{refusalNumber, sizesOf, StateStands}
 use Rattle.calls.specs.Trace.{lentTo, WholeCall, Trace}
-use Rattle.call_lists.specs.Listed.{capped, callOf, isKind, hasCall, callsIn, wordNumber, numbersOf, CallAnswered, CallStored, ListDone, ListCarriedOut}
+use Rattle.narrow.specs.Cut.{cut}
+use Rattle.call_lists.specs.Listed.{callOf, isKind, hasCall, callsIn, wordNumber, numbersOf, CallAnswered, CallStored, ListDone, ListCarriedOut}
 
 -- ---- the words of one call
 
@@ -109,7 +110,7 @@ lent-to L k n r w = go (eqb k 1) (eqb k 2)
   where
     go :
         (a b : Bool)
-        → lentTo (cond a (placing L (capped 65535 n) (capped 255 r) (ofBits binary32 (capped 0xFFFF_FFFF w))) (cond b (evicting L (capped 65535 n)) (running L n))) ≡ L
+        → lentTo (cond a (placing L (cut 65535 n) (cut 255 r) (ofBits binary32 (cut 0xFFFF_FFFF w))) (cond b (evicting L (cut 65535 n)) (running L n))) ≡ L
     go true b = refl
     go false true = refl
     go false false = refl

@@ -18,22 +18,18 @@ use Rattle.allocator.specs.Layout.{StateBuffers}
 use Rattle.allocator.specs.Calls.{Call, placing, evicting, running, Answer, refused, placed, evicted, ended, answerOf, after, answers}
 use Rattle.allocator.specs.Reached.{Reached}
 use Rattle.context.specs.Standing.{JobStands}
+use Rattle.narrow.specs.Cut.{cut}
 use Rattle.run_loop.specs.Running.{endingNumber}
 use Rattle.calls.specs.Calling.{refusalNumber, valueNumber, sizesOf, StateStands, Called}
 use Rattle.calls.specs.Trace.{Trace}
 
 -- ---- a call in four words: its kind, a number or a budget, a register, the bits of a weight. What a kind does not need is not read.
 
--- every number above m is m. No job has a virtual register 65,535 or a register 255, and no weight that is a number has the bits 0xFFFFFFFF, so what
--- does not fit is refused as such a number is
-unfoldable pub capped : ℕ → ℕ → ℕ
-capped m x = cond (leb x m) x m
-
 -- kind 1 places, 2 evicts, 3 runs
 unfoldable pub callOf : List ℕ → ℕ → ℕ → ℕ → ℕ → Call
 callOf lent k n r w =
-    cond (eqb k 1) (placing lent (capped 65535 n) (capped 255 r) (ofBits binary32 (capped 0xFFFF_FFFF w)))
-    (cond (eqb k 2) (evicting lent (capped 65535 n)) (running lent n))
+    cond (eqb k 1) (placing lent (cut 65535 n) (cut 255 r) (ofBits binary32 (cut 0xFFFF_FFFF w)))
+    (cond (eqb k 2) (evicting lent (cut 65535 n)) (running lent n))
 
 abbrev pub isKind : ℕ → Bool
 isKind k = leb 1 k && leb k 3

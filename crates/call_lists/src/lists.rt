@@ -10,7 +10,8 @@ ghost use lib.Seq.{sets};
 ghost use Rattle.job.specs.Layout.{slices};
 ghost use Rattle.run_loop.specs.Running.{lentState};
 ghost use Rattle.calls.specs.Calling.{sizesOf};
-ghost use Rattle.call_lists.specs.Listed.{capped, callOf, hasCall, CallStored, ListDone, ListCarriedOut};
+ghost use Rattle.narrow.specs.Cut.{cut};
+ghost use Rattle.call_lists.specs.Listed.{callOf, hasCall, CallStored, ListDone, ListCarriedOut};
 use allocator::Assignment;
 use calls::direct::assign;
 use calls::direct::evict;
@@ -18,31 +19,9 @@ use calls::runs::run;
 use job::JobHeader;
 use lent::at;
 use lent::put;
-
-// The number, or the greatest that 8 bits hold. No job has so many registers.
-fn capped8(x: u64) -> u8
-    ensures { λ r. ⌜ r ≡ capped 255 x ⌝ }
-{
-    if x <= 255 { x as u8 } else { 255 }
-}
-
-// The number, or the greatest that 16 bits hold. No job has so many virtual registers.
-fn capped16(x: u64) -> u16
-    ensures { λ r. ⌜ r ≡ capped 65535 x ⌝ }
-{
-    if x <= 65535 { x as u16 } else { 65535 }
-}
-
-// The bits, or the greatest that 32 bits hold, which are no number's.
-fn capped32(x: u64) -> u32
-    ensures { λ r. ⌜ r ≡ capped 0xFFFF_FFFF x ⌝ }
-{
-    if x <= 0xFFFF_FFFF {
-        x as u32
-    } else {
-        0xFFFF_FFFF
-    }
-}
+use narrow::cut8;
+use narrow::cut16;
+use narrow::cut32;
 
 // The register that a placement gave, or 0 where it was refused.
 fn reg_given(refusal: u64, reg: u8) -> u64
@@ -92,14 +71,14 @@ impl ListedCall {
         ensures { λ r. ⌜ CallStored (self .header) (slices (now (j64 .entry)) (now (j32 .entry)) (now (j16 .entry)) (now (j8 .entry)) (now (jf .entry))) (callOf (sizesOf (slices (now (j64 .entry)) (now (j32 .entry)) (now (j16 .entry)) (now (j8 .entry)) (now (jf .entry))) (lentState (now (ends .entry)) (now (rests .entry)) (now (queue .entry)) (now (last .entry)))) (self .kind) (self .number) (self .reg) (self .weight)) (lentState (now (ends .entry)) (now (rests .entry)) (now (queue .entry)) (now (last .entry))) all (lentState (now (ends .exit)) (now (rests .exit)) (now (queue .exit)) (now (last .exit))) r (now (out .entry)) (self .to) (now (out .exit)) ⌝ }
     {
         let header = self.header;
-        let reg = capped8(self.reg);
+        let reg = cut8(self.reg);
         let mut refusal: u64 = 0;
         let after = assign(
             all,
             header,
-            capped16(self.number),
+            cut16(self.number),
             reg,
-            capped32(self.weight),
+            cut32(self.weight),
             j64,
             j32,
             j16,
@@ -139,7 +118,7 @@ impl ListedCall {
         let after = evict(
             all,
             header,
-            capped16(self.number),
+            cut16(self.number),
             j64,
             j32,
             j16,

@@ -1,7 +1,7 @@
 // An entry as two 64-bit numbers, and a fixed use as one (specs/Layout.antt).
 ghost use mathlib.Core.Path.{_≡_};
-ghost use Prim.Native.Nat.{_+_, _*_, _^_, _<_};
-ghost use Rattle.reg_matrix.specs.Layout.{reservationWord, entryOf, reservationOf, useOf};
+ghost use Prim.Native.Nat.{_^_, _<_};
+ghost use Rattle.reg_matrix.specs.Layout.{entryOf, reservationOf, useOf};
 use reg_matrix::Entry;
 use reg_matrix::FixedIndex;
 use reg_matrix::Reservation;
@@ -49,24 +49,4 @@ pub fn use_of(w: u64) -> Entry
         to: ((from + 2) % 0x1_0000_0000) as u32,
         reservation: Reservation::FixedUse((w % 0x1_0000) as u16),
     }
-}
-
-// The number of a reservation.
-fn reservation_word(r: Reservation) -> u64
-    ensures { λ w. ⌜ w ≡ reservationWord r ⌝ }
-{
-    match r {
-        Reservation::FixedDef => 0,
-        Reservation::FixedUse(x) => wide(x) + 1,
-        Reservation::Held(v, index) => match index {
-            FixedIndex::NoIndex => (wide(v) + 2) * 0x1_0000,
-            FixedIndex::At(i) => (wide(v) + 2) * 0x1_0000 + (wide(i) + 1),
-        },
-    }
-}
-
-fn wide(x: u16) -> u64
-    ensures { λ r. ⌜ r ≡ x ⌝ }
-{
-    x as u64
 }

@@ -26,9 +26,10 @@ use Rattle.calls.specs.Calling as calling
 use Rattle.calls.specs.Calling.{sizesOf, refusalNumber, valueNumber, StateStands}
 use Rattle.call_tests.proofs.RefusalLaws.{placing-tests, evicting-tests}
 use Rattle.records.specs.Words.{recordsIn, AllPlain}
-use Rattle.words.specs.Words.{headerIn, cut, wordsShort}
+use Rattle.narrow.specs.Cut.{cut}
+use Rattle.words.specs.Words.{headerIn, wordsShort}
 use Rattle.pezhkadu.specs.Calling.{Called, evictShort, EvictCalled}
-use Rattle.words.proofs.NumberLaws.{uncut}
+use Rattle.narrow.proofs.CutLaws.{uncut}
 use Rattle.pezhkadu.proofs.CallLaws.{long-both, own-short, call-refused, call-done}
 
 -- ---- cut numbers

@@ -2,7 +2,5 @@ pub mod CallLaws
 pub mod RunLaws
 pub mod LoadLaws
 pub mod DirectLaws
-pub mod ReadLaws
 pub mod RefusalNumbers
 pub mod LoadedLaws
-pub mod SheetLaws

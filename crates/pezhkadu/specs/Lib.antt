@@ -1,3 +1,2 @@
 pub mod Calling
 pub mod Loading
-pub mod Reading

@@ -9,13 +9,13 @@ ghost use Rattle.pezhkadu.specs.Calling.{Called, EvictCalled};
 use calls::direct::Eviction;
 use calls::direct::Placement;
 use lent::put;
+use narrow::cut8;
+use narrow::cut16;
+use narrow::cut32;
 use records::words::put_record;
 use records::words::record_at;
 use words::header::header_of;
 use words::header::short_words;
-use words::numbers::cut8;
-use words::numbers::cut16;
-use words::numbers::cut32;
 
 // Places the virtual register v in the register, with the weight of these binary32 bits. The answer is 0, or the number of the refusal, and then
 // nothing is changed: 15 where a slice is short, 8 where there is no such number or register or v may not have it, 9 where the weight is infinite, no

@@ -7,7 +7,7 @@ ghost use lib.ListN.{length};
 ghost use Rattle.reg_matrix.specs.Questions.{spareRefusal};
 ghost use Rattle.entries.specs.Moves.{words};
 ghost use Rattle.entries.specs.Placing.{freeAt, range, spareAnswer};
-ghost use Rattle.words.specs.Words.{cut};
+ghost use Rattle.narrow.specs.Cut.{cut};
 ghost use Rattle.script_io.specs.Reading.{Took, isWhole};
 use crate::input::read_number;
 use crate::output::print;
@@ -16,13 +16,13 @@ use entries::unit_free::is_unit_free;
 use matrix::Cursor;
 use matrix::Start;
 use matrix::Step;
+use narrow::cut8;
+use narrow::cut16;
+use narrow::cut32;
 use reg_matrix::ValueSegment;
 use thin::lists::check_list;
 use thin::lists::next_in_list;
 use transcript::answers;
-use words::numbers::cut8;
-use words::numbers::cut16;
-use words::numbers::cut32;
 
 // One segment that was read, or that the script ended inside it.
 enum SegmentRead {

@@ -10,15 +10,7 @@ use Rattle.allocator.specs.declared.Assignment.the-variants.{Assigned}
 use Rattle.allocator.specs.declared.Ending.the-variants.{Done, Spent, TooMany}
 use Rattle.listing.specs.declared.Place.{Place}
 use Rattle.listing.specs.declared.Place.the-variants.{Head, VirtReg, Entry, End}
-use Rattle.words.specs.Words.{cut, endingIn, placeNumber, placeIn, standingNumber}
-
-pub uncut : (top n : ℕ) → n < top → n ≡ cut top n
-unfolding cut
-uncut top n h = rw (lt-ltb _ _ h) refl
-
-pub cut-off : (top n : ℕ) → top ≤ n → top ≡ cut top n
-unfolding cut
-cut-off top n h = rw (le-ltb _ _ h) refl
+use Rattle.words.specs.Words.{endingIn, placeNumber, placeIn, standingNumber}
 
 module _ (n : ℕ) where
   pub ending-done : n ≡ 1 → Done ≡ endingIn n

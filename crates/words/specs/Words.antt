@@ -57,10 +57,6 @@ wordsShort head ws = ltb (length head) headerLimit || ltb (length ws) recordsLim
 
 -- ---- numbers
 
--- a wide number, or the greatest of its type, which no job knows
-unfoldable pub cut : ℕ → ℕ → ℕ
-cut top n = cond (ltb n top) n top
-
 -- the ending of a word's number, as `endingNumber` of context has it
 unfoldable pub endingIn : ℕ → Ending
 endingIn n = cond (eqb n 1) Done (cond (eqb n 2) Spent TooMany)

@@ -1,41 +1,10 @@
-// Numbers that stand for what other crates pass by value: how a run ended, a place in the sheet, how a virtual register stands. And wide numbers cut
-// to the greatest of their type, which no job knows.
+// Numbers that stand for what other crates pass by value: how a run ended, a place in the sheet, how a virtual register stands.
 ghost use mathlib.Core.Path.{_≡_};
 ghost use Rattle.listing.specs.declared.Place.the-variants.{Entry};
-ghost use Rattle.words.specs.Words.{cut, endingIn, placeIn, placeNumber, standingNumber};
+ghost use Rattle.words.specs.Words.{endingIn, placeIn, placeNumber, standingNumber};
 use allocator::Assignment;
 use allocator::Ending;
 use listing::Place;
-
-// The number, or the greatest of 8 bits where it is above it.
-pub fn cut8(n: u64) -> u8
-    ensures { λ r. ⌜ r ≡ cut 0xFF n ⌝ }
-{
-    if n < 0xFF {
-        return n as u8;
-    }
-    0xFF
-}
-
-// The same of 16 bits.
-pub fn cut16(n: u64) -> u16
-    ensures { λ r. ⌜ r ≡ cut 0xFFFF n ⌝ }
-{
-    if n < 0xFFFF {
-        return n as u16;
-    }
-    0xFFFF
-}
-
-// The same of 32 bits.
-pub fn cut32(n: u64) -> u32
-    ensures { λ r. ⌜ r ≡ cut 0xFFFF_FFFF n ⌝ }
-{
-    if n < 0xFFFF_FFFF {
-        return n as u32;
-    }
-    0xFFFF_FFFF
-}
 
 // How a run ended, by its word's number: 1 done, 2 spent, and any other toomany.
 pub fn ending_of(n: u64) -> Ending
