@@ -20,8 +20,8 @@ use narrow::cut8;
 use narrow::cut16;
 use narrow::cut32;
 use reg_matrix::ValueSegment;
-use thin::lists::check_list;
-use thin::lists::next_in_list;
+use segment_lists::check_list;
+use segment_lists::next_in_list;
 use transcript::answers;
 
 // One segment that was read, or that the script ended inside it.

@@ -46,16 +46,16 @@ use denote.Triple.Walked.{says, Stays, stay-dropped, gave-slice, walkOf, Walks, 
 use Rattle.reg_matrix.specs.declared.ValueSegment.{ValueSegment}
 use Rattle.entries.specs.declared.Moved.{Moved}
 use Rattle.entries.specs.Moves.{Words, words}
-use Rattle.thin.specs.declared.Fields.{Fields}
-use Rattle.thin.specs.Apart.{takenApart}
+use Rattle.segment_fields.specs.declared.Fields.{Fields}
+use Rattle.segment_fields.specs.Apart.{takenApart}
 use Rattle.entries.proofs.Moved as E
 use Rattle.entries.proofs.Moved.Laws as E′
-use Rattle.thin.proofs.Fields as T
-use Rattle.thin.proofs.Fields.Laws as T′
-use Rattle.thin.proofs.Arrays.{R}
-use Rattle.thin.proofs.Calling.{F, segmentSlice, TakeApart, segments, Own, to-apart, goes-apart, answered}
-use Rattle.thin.proofs.taking.take_apart.Symbol.{name as #take-apart}
-use Rattle.thin.proofs.covered.assign_fields as covered
+use Rattle.segment_fields.proofs.Fields as T
+use Rattle.segment_fields.proofs.Fields.Laws as T′
+use Rattle.segment_fields.proofs.Arrays.{R}
+use Rattle.segment_fields.proofs.Calling.{F, segmentSlice, TakeApart, segments, Own, to-apart, goes-apart, answered}
+use Rattle.segment_fields.proofs.taking.take_apart.Symbol.{name as #take-apart}
+use Rattle.segment_calls.proofs.assign_fields as covered
 use Rattle.thin.proofs.assign.assign as fun
 
 -- the MIR types of the table's slices, as passed and as passed on, and of the fixed uses

@@ -2,13 +2,13 @@
 ghost use lib.Dec.{ltb};
 ghost use lib.ListN.{length};
 ghost use Rattle.entries.specs.Moves.{words};
-ghost use Rattle.thin.specs.Apart.{maxSegments, fromsOf, tosOf};
-ghost use Rattle.thin.specs.Answers.{AssignAnswer, EvictAnswer};
-use crate::covered::assign_fields;
-use crate::covered::evict_fields;
-use crate::taking::take_apart;
+ghost use Rattle.segment_fields.specs.Apart.{maxSegments, fromsOf, tosOf};
+ghost use Rattle.segment_calls.specs.Answers.{AssignAnswer, EvictAnswer};
 use entries::Moved;
 use reg_matrix::ValueSegment;
+use segment_calls::assign_fields;
+use segment_calls::evict_fields;
+use segment_fields::taking::take_apart;
 
 // Places v in the register of this map of units: on each unit every segment replaces the fixed uses inside it by one entry, whose index is
 // the first fixed use of the unit not starting before the segment, or no index if it replaced none. The segments' values do not matter

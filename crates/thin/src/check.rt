@@ -3,16 +3,16 @@ ghost use mathlib.Core.Path.{_≡_};
 ghost use lib.Dec.{ltb};
 ghost use lib.ListN.{length, take};
 ghost use Rattle.matrix.specs.Walk.{Answered, lent, entered};
-ghost use Rattle.thin.specs.Apart.{maxSegments, fromsOf, tosOf, valuesOf};
-ghost use Rattle.thin.specs.Answers.{checkAnswer};
-use crate::covered::check_fields;
-use crate::covered::enter_fields;
-use crate::covered::next_in_fields;
-use crate::taking::take_apart;
+ghost use Rattle.segment_fields.specs.Apart.{maxSegments, fromsOf, tosOf, valuesOf};
+ghost use Rattle.segment_calls.specs.Answers.{checkAnswer};
 use matrix::Cursor;
 use matrix::Start;
 use matrix::Step;
 use reg_matrix::ValueSegment;
+use segment_calls::check_fields;
+use segment_calls::enter_fields;
+use segment_calls::next_in_fields;
+use segment_fields::taking::take_apart;
 
 // Starts a check of the register numbered `reg` among the first `count` maps of units, in the full or the short form, against these
 // segments. It tests 15, 8, 5, 6, 7 in this order, and gives the refusal's number or the position at the start. More than 512 segments

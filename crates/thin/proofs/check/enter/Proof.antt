@@ -44,22 +44,22 @@ use denote.Triple.Walked.{says, Stays, stay-dropped, walkOf, Walks, ends-at, wal
 use Rattle.reg_matrix.specs.declared.ValueSegment.{ValueSegment}
 use Rattle.matrix.specs.declared.Cursor.{Cursor}
 use Rattle.matrix.specs.Walk.{entered as positionAt}
-use Rattle.thin.specs.declared.Fields.{Fields}
-use Rattle.thin.specs.Apart.{fromsIn, fromsOf}
+use Rattle.segment_fields.specs.declared.Fields.{Fields}
+use Rattle.segment_fields.specs.Apart.{fromsIn, fromsOf}
 use Rattle.matrix.proofs.Cursor as D
 use Rattle.matrix.proofs.Cursor.Laws as D′
-use Rattle.thin.proofs.Fields as T
-use Rattle.thin.proofs.Fields.Laws as T′
-use Rattle.thin.proofs.Arrays.{R}
-use Rattle.thin.proofs.Calling.{F, segmentSlice, TakeApart, segments, Own, to-apart, goes-apart, answered}
+use Rattle.segment_fields.proofs.Fields as T
+use Rattle.segment_fields.proofs.Fields.Laws as T′
+use Rattle.segment_fields.proofs.Arrays.{R}
+use Rattle.segment_fields.proofs.Calling.{F, segmentSlice, TakeApart, segments, Own, to-apart, goes-apart, answered}
 use Rattle.thin.proofs.AnswerLaws.{enter-told}
-use Rattle.thin.proofs.taking.take_apart.Symbol as apart-def
-use Rattle.thin.proofs.taking.take_apart.Symbol.{name as #take-apart}
-use Rattle.thin.proofs.taking.take_apart.Met as apart-thm
-use Rattle.thin.proofs.covered.enter_fields as covered
-use Rattle.thin.proofs.covered.enter_fields.Symbol as covered-def
-use Rattle.thin.proofs.covered.enter_fields.Symbol.{name as #covered}
-use Rattle.thin.proofs.covered.enter_fields.Met as covered-thm
+use Rattle.segment_fields.proofs.taking.take_apart.Symbol as apart-def
+use Rattle.segment_fields.proofs.taking.take_apart.Symbol.{name as #take-apart}
+use Rattle.segment_fields.proofs.taking.take_apart.Met as apart-thm
+use Rattle.segment_calls.proofs.enter_fields as covered
+use Rattle.segment_calls.proofs.enter_fields.Symbol as covered-def
+use Rattle.segment_calls.proofs.enter_fields.Symbol.{name as #covered}
+use Rattle.segment_calls.proofs.enter_fields.Met as covered-thm
 use Rattle.thin.proofs.check.enter.Key.{name as #enter}
 use Rattle.thin.proofs.check.enter as fun
 use Rattle.thin.proofs.check.enter.Statement as stated
@@ -237,6 +237,6 @@ enter-spec 𝓤 H 𝓜 𝓖 𝓡 =
     (tables 𝓤 H 𝓜 𝓡 code.env .C) (tables 𝓤 H 𝓜 𝓡 code.env .Λ) #enter code.function (code.unfolded 𝓤 H 𝓜 𝓡)
     (fun-meets 𝓤 H (𝓖 .A) (givenOf 𝓤 H 𝓜 𝓖) (𝓜 .mem) (𝓡 .run) (tablesOf 𝓤 H 𝓜 (tables 𝓤 H 𝓜 𝓡 code.env))
     (cited 𝓤 H (TakeApart 𝓤 H (𝓖 .A) (𝓜 .mem)
-    (𝓡 .run)) 𝓜 𝓡 code.env #take-apart apart-def.routine code.calls-thin·taking·take-apart (apart-thm.met 𝓤 H 𝓜 𝓖 𝓡))
+    (𝓡 .run)) 𝓜 𝓡 code.env #take-apart apart-def.routine code.calls-segment-fields·taking·take-apart (apart-thm.met 𝓤 H 𝓜 𝓖 𝓡))
     (cited 𝓤 H (Covered 𝓤 H (𝓖 .A) (𝓜 .mem)
-    (𝓡 .run)) 𝓜 𝓡 code.env #covered covered-def.routine code.calls-thin·covered·enter-fields (covered-thm.met 𝓤 H 𝓜 𝓖 𝓡)))
+    (𝓡 .run)) 𝓜 𝓡 code.env #covered covered-def.routine code.calls-segment-calls·enter-fields (covered-thm.met 𝓤 H 𝓜 𝓖 𝓡)))

@@ -45,24 +45,24 @@ use Rattle.reg_matrix.specs.declared.ValueSegment.{ValueSegment}
 use Rattle.matrix.specs.declared.Cursor.{Cursor}
 use Rattle.matrix.specs.declared.Step.{Step}
 use Rattle.matrix.specs.Walk.{Answered, lent}
-use Rattle.thin.specs.declared.Fields.{Fields}
-use Rattle.thin.specs.Apart.{maxSegments, fromsIn, tosIn, valuesIn, fromsOf, tosOf, valuesOf}
+use Rattle.segment_fields.specs.declared.Fields.{Fields}
+use Rattle.segment_fields.specs.Apart.{maxSegments, fromsIn, tosIn, valuesIn, fromsOf, tosOf, valuesOf}
 use Rattle.matrix.proofs.Cursor as D
 use Rattle.matrix.proofs.Cursor.Laws as D′
 use Rattle.matrix.proofs.Step as E
 use Rattle.matrix.proofs.Step.Laws as E′
-use Rattle.thin.proofs.Fields as T
-use Rattle.thin.proofs.Fields.Laws as T′
-use Rattle.thin.proofs.Arrays.{R}
-use Rattle.thin.proofs.Calling.{F, segmentSlice, TakeApart, segments, Own, to-apart, goes-apart, answered}
+use Rattle.segment_fields.proofs.Fields as T
+use Rattle.segment_fields.proofs.Fields.Laws as T′
+use Rattle.segment_fields.proofs.Arrays.{R}
+use Rattle.segment_fields.proofs.Calling.{F, segmentSlice, TakeApart, segments, Own, to-apart, goes-apart, answered}
 use Rattle.thin.proofs.AnswerLaws.{next-told}
-use Rattle.thin.proofs.taking.take_apart.Symbol as apart-def
-use Rattle.thin.proofs.taking.take_apart.Symbol.{name as #take-apart}
-use Rattle.thin.proofs.taking.take_apart.Met as apart-thm
-use Rattle.thin.proofs.covered.next_in_fields as covered
-use Rattle.thin.proofs.covered.next_in_fields.Symbol as covered-def
-use Rattle.thin.proofs.covered.next_in_fields.Symbol.{name as #covered}
-use Rattle.thin.proofs.covered.next_in_fields.Met as covered-thm
+use Rattle.segment_fields.proofs.taking.take_apart.Symbol as apart-def
+use Rattle.segment_fields.proofs.taking.take_apart.Symbol.{name as #take-apart}
+use Rattle.segment_fields.proofs.taking.take_apart.Met as apart-thm
+use Rattle.segment_calls.proofs.next_in_fields as covered
+use Rattle.segment_calls.proofs.next_in_fields.Symbol as covered-def
+use Rattle.segment_calls.proofs.next_in_fields.Symbol.{name as #covered}
+use Rattle.segment_calls.proofs.next_in_fields.Met as covered-thm
 use Rattle.thin.proofs.check.next.Key.{name as #next}
 use Rattle.thin.proofs.check.next as fun
 use Rattle.thin.proofs.check.next.Statement as stated
@@ -265,6 +265,6 @@ next-spec 𝓤 H 𝓜 𝓖 𝓡 =
     (tables 𝓤 H 𝓜 𝓡 code.env .C) (tables 𝓤 H 𝓜 𝓡 code.env .Λ) #next code.function (code.unfolded 𝓤 H 𝓜 𝓡)
     (fun-meets 𝓤 H (𝓖 .A) (givenOf 𝓤 H 𝓜 𝓖) (𝓜 .mem) (𝓡 .run) (tablesOf 𝓤 H 𝓜 (tables 𝓤 H 𝓜 𝓡 code.env))
     (cited 𝓤 H (TakeApart 𝓤 H (𝓖 .A) (𝓜 .mem)
-    (𝓡 .run)) 𝓜 𝓡 code.env #take-apart apart-def.routine code.calls-thin·taking·take-apart (apart-thm.met 𝓤 H 𝓜 𝓖 𝓡))
+    (𝓡 .run)) 𝓜 𝓡 code.env #take-apart apart-def.routine code.calls-segment-fields·taking·take-apart (apart-thm.met 𝓤 H 𝓜 𝓖 𝓡))
     (cited 𝓤 H (Covered 𝓤 H (𝓖 .A) (𝓜 .mem)
-    (𝓡 .run)) 𝓜 𝓡 code.env #covered covered-def.routine code.calls-thin·covered·next-in-fields (covered-thm.met 𝓤 H 𝓜 𝓖 𝓡)))
+    (𝓡 .run)) 𝓜 𝓡 code.env #covered covered-def.routine code.calls-segment-calls·next-in-fields (covered-thm.met 𝓤 H 𝓜 𝓖 𝓡)))

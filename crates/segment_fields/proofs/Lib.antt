@@ -1,0 +1,3 @@
+pub mod ApartLaws
+pub mod Arrays
+pub mod Calling

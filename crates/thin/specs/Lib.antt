@@ -1,2 +1,0 @@
-pub mod Apart
-pub mod Answers
