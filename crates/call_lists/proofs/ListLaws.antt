@@ -20,7 +20,7 @@ use Rattle.allocator.specs.Layout.{StateBuffers}
 use Rattle.allocator.specs.Calls.{Call, placing, evicting, running, answerOf, after, answers}
 use Rattle.allocator.specs.Reached.{Reached}
 use Rattle.allocator.proofs.Good.{reached-after}
-use Rattle.context.specs.Standing.{JobStands}
+use Rattle.moves.specs.Standing.{JobStands}
 use Rattle.calls.specs.Calling.{refusalNumber, sizesOf, StateStands}
 use Rattle.calls.specs.Trace.{lentTo, WholeCall, Trace}
 use Rattle.narrow.specs.Cut.{cut}

@@ -17,7 +17,7 @@ use Rattle.allocator.specs.State.{State}
 use Rattle.allocator.specs.Layout.{StateBuffers}
 use Rattle.allocator.specs.Calls.{Call, placing, evicting, running, Answer, refused, placed, evicted, ended, answerOf, after, answers}
 use Rattle.allocator.specs.Reached.{Reached}
-use Rattle.context.specs.Standing.{JobStands}
+use Rattle.moves.specs.Standing.{JobStands}
 use Rattle.narrow.specs.Cut.{cut}
 use Rattle.run_loop.specs.Running.{endingNumber}
 use Rattle.calls.specs.Calling.{refusalNumber, valueNumber, sizesOf, StateStands, Called}

@@ -39,8 +39,8 @@ use Rattle.stage.proofs.ReachedSearch.{map-read}
 use Rattle.job_parts.specs.Shares.{shareOf, classIn}
 use Rattle.decisions.specs.Deciding.{lentTo}
 use Rattle.records.specs.Fields.{isHeld, regIn}
-use Rattle.context.specs.Standing.{JobReads, TableStands}
-use Rattle.context.proofs.Shares.{hint-regs-share}
+use Rattle.moves.specs.Standing.{JobReads, TableStands}
+use Rattle.moves.proofs.Shares.{hint-regs-share}
 use Rattle.context.proofs.Decision.{field-read, laid-out, search-lent, class-is}
 use Rattle.call_tests.specs.Testing.{isFree, hintedAt, namedIn, unknownIn, clearAt, placeTests, evictTests}
 

@@ -31,9 +31,9 @@ use Rattle.allocator.proofs.Good.{Good, good-reached, placeable-idle}
 use Rattle.allocator.proofs.Records.{holder-stays, held-record, idle-record, give-records, lose-records, lose-last}
 use Rattle.stage.proofs.ReachedMoves.{evict-held}
 use Rattle.records.specs.Fields.{flagIn, regIn}
-use Rattle.context.specs.Standing.{JobStands}
-use Rattle.context.specs.Carrying.{wideLists, Taken, TakenBack}
-use Rattle.context.proofs.CarryLaws.{evict-reads, take-reads}
+use Rattle.moves.specs.Standing.{JobStands}
+use Rattle.moves.specs.Moving.{wideLists, Taken, TakenBack}
+use Rattle.moves.proofs.MoveLaws.{evict-reads, take-reads}
 use Rattle.call_tests.specs.Testing.{clearTo, placeTests, evictTests}
 use Rattle.run_loop.specs.Running.{lentState}
 use Rattle.calls.specs.Calling.{refusalNumber, valueNumber, sizesOf, StateStands, unknownTo, placeAnswer, evictAnswer, Placed, Evicted}

@@ -27,7 +27,7 @@ use Rattle.allocator.proofs.Accepted.{all-pass}
 use Rattle.allocator.proofs.Good.{good-reached}
 use Rattle.stage.proofs.Reached.{asked-reports}
 use Rattle.stage.proofs.ReachedMoves.{table-stands, spare-found}
-use Rattle.context.specs.Standing.{TableStands}
+use Rattle.moves.specs.Standing.{TableStands}
 use Rattle.calls.specs.Asking.{checkedOf, sparedOf, checkSizes}
 
 -- neither of two tests refuses

@@ -29,7 +29,7 @@ use Rattle.allocator.specs.Demand.{TablesAreHolders}
 use Rattle.allocator.proofs.Demand3.{demand3}
 use Rattle.allocator.proofs.Good.{good-reached, reached-fresh, reached-after}
 use Rattle.stage.proofs.Reached.{walkable}
-use Rattle.context.specs.Standing.{JobStands}
+use Rattle.moves.specs.Standing.{JobStands}
 use Rattle.calls.specs.Calling.{StateStands}
 use Rattle.calls.specs.Trace.{readTable, tableIn, lentTo, joined, WholeCall, ShortCall, Trace, TraceOf, CodeDemand3}
 

@@ -19,7 +19,7 @@ use Rattle.allocator.specs.Calls.{Call, placing, evicting, running, Answer, ref
 use Rattle.allocator.specs.Reached.{Reached}
 use Rattle.allocator.specs.Run.{run}
 use Rattle.records.specs.Fields.{flagIn, regIn}
-use Rattle.context.specs.Standing.{JobStands, Stands}
+use Rattle.moves.specs.Standing.{JobStands, Stands}
 use Rattle.run_loop.specs.Running.{endingNumber}
 use Rattle.call_tests.specs.Testing.{namedTo, unknownIn, clearTo, placeTests, evictTests}
 

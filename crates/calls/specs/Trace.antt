@@ -20,7 +20,7 @@ use Rattle.allocator.specs.Layout.{StateBuffers, stageLimits}
 use Rattle.allocator.specs.Calls.{load, Call, placing, evicting, running, placed, answers, afterAll}
 use Rattle.allocator.specs.Holding.{holds}
 use Rattle.allocator.specs.Demand.{holdersAfter, placements}
-use Rattle.context.specs.Standing.{JobStands}
+use Rattle.moves.specs.Standing.{JobStands}
 use Rattle.calls.specs.Calling.{sizesOf, StateStands, Called}
 
 -- ---- the table read from its two buffers: the entries before the first number that is no entry's

@@ -25,7 +25,9 @@ use Rattle.allocator.proofs.Good.{Good, Idle, good-reached, queued-idle, takes-
 use Rattle.allocator.proofs.Records.{give-records, leave-records, requeue-records, lose-last, leave-last, requeue-last}
 use Rattle.stage.proofs.ReachedSearch.{record-read}
 use Rattle.queue.specs.QueueWalk.{setWord}
-use Rattle.context.specs.Standing.{Stands}
+use Rattle.moves.specs.Standing.{Stands}
+use Rattle.moves.specs.Moving.{EvictReads, keyIn, Taken, PassedParts, PassedBy}
+use Rattle.moves.proofs.MoveLaws.{unqueued, queued-at}
 use Rattle.records.specs.Words.{recordWord, recordIn, PlainRecord, WordsOf}
 use Rattle.records.proofs.WordLaws.{word-read, word-set, dead-word}
 use Rattle.records.proofs.PlainRecords.{records-length}
@@ -34,8 +36,7 @@ use Rattle.decisions.specs.declared.Fate.the-variants.{Leaves, Takes, Evicts, S
 use Rattle.decisions.specs.declared.Decided.{Decided}
 use Rattle.decisions.specs.Deciding.{members, decisionBy, decisionOf}
 use Rattle.records.specs.Fields.{flagIn}
-use Rattle.context.specs.Carrying.{EvictReads, keyIn, EvictedAll, Taken, givenRecord, Settled, isEvicting, isTaking, PassedParts, PassedBy, CarriedOut}
-use Rattle.context.proofs.CarryLaws.{unqueued, queued-at}
+use Rattle.context.specs.Carrying.{EvictedAll, givenRecord, Settled, isEvicting, isTaking, CarriedOut}
 
 -- a decision by the fate
 by-fate : (d : Decided) (x : Fate) (y : Decision) → d .fate ≡ x → decisionBy x d ≡ y → (j : Job) (s : State) (v : ℕ) (q : Stage) → decisionOf d ≡ decide j s v q → stateOf (dequeue j s v q) ≡ stateOf (carryOut j s v y)
@@ -92,30 +93,6 @@ module _ (v : ℕ) (c : CandidateReg) (f : Bool) (B : JobBuffers) (ends rests qu
               rw st′ (subst (λ (rs : List Assignment). WordsOf rs (set W v x)) after (word-set is (records-length s) v x a (px .0) (px .1 (subst PlainRecord (sym now-is) plain)))),
             );
       }
-
--- ---- no register is taken
-
-module _ (f : Fate) (v key : ℕ) (queue W queue′ W′ : List ℕ) where
-  abbrev Passes : Type 0
-  Passes = PassedBy f v key queue W queue′ W′
-
-  passed : (x : Fate) → f ≡ x → PassedParts x v key queue W queue′ W′ → Passes
-  passed x e p = record { parts = subst (λ (y : Fate). PassedParts y v key queue W queue′ W′) (sym e) p }
-
-  pub passed-leaves : f ≡ Leaves → queue′ ≡ setWord v 0 queue → (x : ℕ) → x ≡ recordWord Dead → W′ ≡ set W v x → Passes
-  passed-leaves e p x px r = passed Leaves e (p, r ∙ ap (set W v) px)
-
-  pub passed-splits : f ≡ Splits → queue′ ≡ setWord v (key + 1) queue → W′ ≡ W → Passes
-  passed-splits e p r = passed Splits e (p, r)
-
-  pub passed-fails : f ≡ Fails → queue′ ≡ setWord v 0 queue → W′ ≡ W → Passes
-  passed-fails e p r = passed Fails e (p, r)
-
-  pub not-takes : f ≡ Takes → Passes
-  not-takes e = passed Takes e tt
-
-  pub not-evicts : f ≡ Evicts → Passes
-  not-evicts e = passed Evicts e tt
 
 -- ---- others are evicted first, or nothing changes
 

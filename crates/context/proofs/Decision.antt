@@ -41,10 +41,10 @@ use Rattle.decisions.specs.declared.Fate.the-variants.{Takes, Splits, Fails}
 use Rattle.job_parts.specs.Shares.{classIn}
 use Rattle.decisions.specs.Deciding.{members, decisionOf, decided, without, lastIn, preferredOr, clearIn, evictedOr, noneClearIn, foundIn, inOrder, lentTo, hintedIn, decidedIn}
 use Rattle.records.specs.Fields.{flagIn, recordWeight}
-use Rattle.context.specs.Standing.{JobReads, TableStands}
+use Rattle.moves.specs.Standing.{JobReads, TableStands}
 use Rattle.records.specs.Words.{recordIn, heldIn, WordsOf}
 use Rattle.records.proofs.WordLaws.{word-read, held-are}
-use Rattle.context.proofs.Shares.{froms-share, tos-share, values-share, hint-regs-share, hint-weights-share, class-share}
+use Rattle.moves.proofs.Shares.{froms-share, tos-share, values-share, hint-regs-share, hint-weights-share, class-share}
 
 -- ---- words and weights
 

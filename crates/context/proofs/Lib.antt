@@ -1,4 +1,3 @@
-pub mod Shares
 pub mod CarryLaws
 pub mod Decision
 pub mod Carried

@@ -1,2 +1,1 @@
-pub mod Standing
 pub mod Carrying

@@ -14,7 +14,7 @@ use Rattle.allocator.specs.Layout.{StateBuffers, stageLimits}
 use Rattle.allocator.specs.Calls.{Call, evicting, running, answerOf, after}
 use Rattle.allocator.specs.Reached.{Reached}
 use Rattle.allocator.specs.Run.{run}
-use Rattle.context.specs.Standing.{JobStands}
+use Rattle.moves.specs.Standing.{JobStands}
 use Rattle.run_loop.specs.Running.{endingNumber}
 use Rattle.calls.specs.Calling.{sizesOf, refusalNumber, valueNumber, StateStands}
 use Rattle.records.specs.Words.{recordsIn}

@@ -11,7 +11,7 @@ use Rattle.allocator.specs.State.{freshState}
 use Rattle.allocator.specs.Layout.{StateBuffers}
 use Rattle.allocator.specs.Calls.{load}
 use Rattle.allocator.specs.Reached.{Reached}
-use Rattle.context.specs.Standing.{JobStands}
+use Rattle.moves.specs.Standing.{JobStands}
 use Rattle.calls.specs.Calling.{sizesOf, StateStands}
 use Rattle.stage_loader.specs.StageLoading.{laterState, laterJob}
 use Rattle.records.specs.Fields.{firstRecords}

@@ -33,9 +33,10 @@ use Rattle.decisions.specs.declared.Fate.the-variants.{Leaves, Takes, Evicts, S
 use Rattle.decisions.specs.declared.Decided.{Decided}
 use Rattle.job_parts.specs.Shares.{classIn}
 use Rattle.decisions.specs.Deciding.{decisionBy, decisionOf, decidedIn}
-use Rattle.context.specs.Standing.{Stands}
-use Rattle.context.specs.Carrying.{wideLists, CarriedOut}
-use Rattle.context.proofs.CarryLaws.{evict-reads, take-reads}
+use Rattle.moves.specs.Standing.{Stands}
+use Rattle.moves.specs.Moving.{wideLists}
+use Rattle.context.specs.Carrying.{CarriedOut}
+use Rattle.moves.proofs.MoveLaws.{evict-reads, take-reads}
 use Rattle.context.proofs.Decision.{decision-is}
 use Rattle.run_loop.specs.declared.RunEnd.{RunEnd}
 use Rattle.run_loop.specs.Running.{isFails, isOver, LentTo, DequeueMade, RunMade}

@@ -17,7 +17,7 @@ use Rattle.allocator.specs.Dequeue.{Step, goesOn, tooMany, stateOf, dequeue}
 use Rattle.allocator.specs.Run.{run}
 use Rattle.allocator.specs.Reached.{Reached}
 use Rattle.records.specs.Words.{WordsOf}
-use Rattle.context.specs.Standing.{JobStands, Stands}
+use Rattle.moves.specs.Standing.{JobStands, Stands}
 use Rattle.decisions.specs.declared.Fate.{Fate}
 use Rattle.decisions.specs.declared.Fate.the-variants.{Leaves, Takes, Evicts, Splits, Fails}
 use Rattle.run_loop.specs.declared.RunEnd.{RunEnd}

@@ -25,7 +25,7 @@ use Rattle.allocator.proofs.Loading.{stage-premises}
 use Rattle.allocator.proofs.Good.{reached-fresh, reached-run}
 use Rattle.loader.specs.declared.load.JobLoaded.{JobLoaded}
 use Rattle.loader.specs.declared.load.JobLoaded.the-variants.{Is, Refused as NotLoaded}
-use Rattle.context.specs.Standing.{JobStands, Stands}
+use Rattle.moves.specs.Standing.{JobStands, Stands}
 use Rattle.run_loop.specs.declared.RunEnd.{RunEnd}
 use Rattle.run_loop.specs.Running.{lentState, LentTo, RunMade}
 use Rattle.calls.specs.Calling.{sizesOf}

@@ -34,8 +34,8 @@ use Rattle.loader.specs.Loading as loading
 use Rattle.loader.specs.Loading.{Lent, lent, later, LoadParts, LoadDone}
 use Rattle.queue.specs.QueueWalk.{firstWord, filled}
 use Rattle.stage.proofs.QueueLaws.{fresh-tournament}
-use Rattle.context.specs.Standing.{JobStands, Stands}
-use Rattle.context.proofs.CarryLaws.{begins-take}
+use Rattle.moves.specs.Standing.{JobStands, Stands}
+use Rattle.moves.proofs.MoveLaws.{begins-take}
 use Rattle.run_loop.specs.Running.{lentState}
 use Rattle.calls.specs.Calling.{sizesOf}
 use Rattle.stage_loader.specs.StageLoading.{laterState, laterJob, StageLoadParts, StageLoadDone}

@@ -1,9 +1,9 @@
 use borrow.Author.Needs.{needs}
 use mathlib.Core.List.{[]}
 use Rattle.job.specs.Layout.{slices, listsIn}
-use Rattle.context.proofs.CarryLaws.{taken-back}
-use Rattle.context.proofs.carry.take_back.Statement.{statement}
-use Rattle.context.proofs.carry.take_back.Tie as tie
+use Rattle.moves.proofs.MoveLaws.{taken-back}
+use Rattle.moves.proofs.take_back.Statement.{statement}
+use Rattle.moves.proofs.take_back.Tie as tie
 
 tos-of-requires : tie.Need-tos-of-requires
 tos-of-requires c κs = search needs

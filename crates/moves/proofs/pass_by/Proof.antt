@@ -1,8 +1,8 @@
 use borrow.Author.Needs.{needs}
 use mathlib.Core.Path.{refl}
-use Rattle.context.proofs.Carried.{passed-leaves, passed-splits, passed-fails, not-takes, not-evicts}
-use Rattle.context.proofs.carry.pass_by.Statement.{statement}
-use Rattle.context.proofs.carry.pass_by.Tie as tie
+use Rattle.moves.proofs.MoveLaws.{passed-leaves, passed-splits, passed-fails, not-takes, not-evicts}
+use Rattle.moves.proofs.pass_by.Statement.{statement}
+use Rattle.moves.proofs.pass_by.Tie as tie
 
 enum-told : tie.Need-enum-told
 enum-told c = search needs

@@ -2,9 +2,9 @@ use borrow.Author.Needs.{needs}
 use mathlib.Core.Path.{_∙_}
 use mathlib.Core.List.{[]}
 use Rattle.job.specs.Layout.{slices, listsIn}
-use Rattle.context.proofs.CarryLaws.{taken}
-use Rattle.context.proofs.carry.take.Statement.{statement}
-use Rattle.context.proofs.carry.take.Tie as tie
+use Rattle.moves.proofs.MoveLaws.{taken}
+use Rattle.moves.proofs.take.Statement.{statement}
+use Rattle.moves.proofs.take.Tie as tie
 
 froms-of-requires : tie.Need-froms-of-requires
 froms-of-requires c κs = search needs

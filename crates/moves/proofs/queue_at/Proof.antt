@@ -1,7 +1,7 @@
 use borrow.Author.Needs.{needs}
 use mathlib.Core.Path.{_∙_}
-use Rattle.context.proofs.carry.queue_at.Statement.{statement}
-use Rattle.context.proofs.carry.queue_at.Tie as tie
+use Rattle.moves.proofs.queue_at.Statement.{statement}
+use Rattle.moves.proofs.queue_at.Tie as tie
 
 from16-requires : tie.Need-from16-requires
 from16-requires c κs = search needs

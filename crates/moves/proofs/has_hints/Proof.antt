@@ -1,6 +1,6 @@
 use borrow.Author.Needs.{needs}
-use Rattle.context.proofs.carry.has_hints.Statement.{statement}
-use Rattle.context.proofs.carry.has_hints.Tie as tie
+use Rattle.moves.proofs.has_hints.Statement.{statement}
+use Rattle.moves.proofs.has_hints.Tie as tie
 
 at16-requires : tie.Need-at16-requires
 at16-requires c κs = search needs
