@@ -11,7 +11,7 @@ use lib.ListN.{length}
 use borrow.Author.Tests.{eq-eqb, ne-eqb}
 use Rattle.reg_matrix.specs.Lists.{isNil}
 use Rattle.reg_matrix.specs.Refusals.{refusal, shortBuffer}
-use Rattle.matrix.specs.Walk.{refusalNumber as numberOf}
+use Rattle.table_words.specs.Segments.{refusalNumber as numberOf}
 use Rattle.job.specs.Model.{Job}
 use Rattle.job.specs.Layout.{JobSlices}
 use Rattle.job.specs.declared.JobHeader.{JobHeader}

@@ -18,7 +18,7 @@ use Rattle.reg_matrix.specs.Refusals.{Test, refusal, _if_, shortBuffer}
 use Rattle.reg_matrix.proofs.Places.{any-at}
 use Rattle.reg_matrix.proofs.Tests.{same-test, eqb-in, passes-or-not}
 use Rattle.reg_matrix.specs.declared.Interference.{Interference}
-use Rattle.matrix.specs.Walk.{refusalNumber as numberOf}
+use Rattle.table_words.specs.Segments.{refusalNumber as numberOf}
 use Rattle.job.specs.declared.Hint.{Hint}
 use Rattle.job.specs.Model as model
 use Rattle.job.specs.Model.{Job, noVirtReg, virtReg}

@@ -6,7 +6,7 @@ ghost use lib.Dec.{ltb, leb};
 ghost use lib.ListN.{length};
 ghost use Rattle.reg_matrix.specs.Lists.{any, count};
 ghost use Rattle.reg_matrix.specs.Refusals.{refusal, shortBuffer};
-ghost use Rattle.matrix.specs.Walk.{refusalNumber as numberOf};
+ghost use Rattle.table_words.specs.Segments.{refusalNumber as numberOf};
 ghost use Rattle.allocator.specs.Layout.{stageLimits};
 ghost use Rattle.job.specs.Layout.{slices};
 ghost use Rattle.call_tests.specs.Testing.{isFree, hintedAt, namedTo, unknownIn, clearTo, placeTests, evictTests};

@@ -13,7 +13,7 @@ use Rattle.reg_matrix.specs.Lists.{isSome}
 use Rattle.reg_matrix.specs.Refusals.{refusal, shortBuffer}
 use Rattle.lent.proofs.Laws.{any-default}
 use Rattle.reg_matrix.proofs.Places.{from-zero}
-use Rattle.matrix.specs.Walk.{refusalNumber as numberOf}
+use Rattle.table_words.specs.Segments.{refusalNumber as numberOf}
 use Rattle.job.specs.Model.{Job}
 use Rattle.job.specs.Layout.{JobSlices, listsIn, headerOf}
 use Rattle.job.specs.declared.JobHeader.{JobHeader}

@@ -18,7 +18,8 @@ use Rattle.reg_matrix.specs.declared.ValueSegment.{ValueSegment}
 use Rattle.reg_matrix.proofs.Places.{padded-read}
 use Rattle.entries.specs.Moves.{words}
 use Rattle.entries.specs.Placing.{freeAt, range, spareAnswer}
-use Rattle.matrix.specs.Walk.{Lent, segmentsIn, entered, remaining, startOf}
+use Rattle.table_words.specs.Segments.{segmentsIn}
+use Rattle.matrix.specs.Walk.{Lent, entered, remaining, startOf}
 use Rattle.job.specs.Model.{Job, unitMap}
 use Rattle.job.specs.Layout.{jobBuffers}
 use Rattle.allocator.specs.State.{State}

@@ -15,7 +15,7 @@ use Rattle.reg_matrix.specs.Layout.{maxEntries, greatest, endWord, restWord, en
 use Rattle.reg_matrix.specs.Lines.{tableLines}
 use Rattle.reg_matrix.specs.declared.Entry.{Entry}
 use Rattle.reg_matrix.proofs.Members.{_∈_}
-use Rattle.matrix.proofs.Decode.{Small, entry-back}
+use Rattle.table_words.proofs.Decode.{Small, entry-back}
 use Rattle.placing.proofs.Standing.{word-small}
 use Rattle.job.specs.Model.{Job}
 use Rattle.job.specs.Layout.{JobSlices, listsIn, headerOf}

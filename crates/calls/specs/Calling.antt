@@ -7,7 +7,7 @@ use lib.Dec.{leb}
 use lib.Ieee.{binary32, ofBits}
 use lib.ListN.{length, getD, set}
 use Rattle.reg_matrix.specs.Refusals.{refusal, shortBuffer}
-use Rattle.matrix.specs.Walk.{refusalNumber as numberOf}
+use Rattle.table_words.specs.Segments.{refusalNumber as numberOf}
 use Rattle.job.specs.Model.{Job}
 use Rattle.job.specs.Layout.{JobSlices, listsIn, headerOf}
 use Rattle.job.specs.declared.JobHeader.{JobHeader}

@@ -11,7 +11,7 @@ use Rattle.reg_matrix.specs.Lists.{foldl}
 use Rattle.reg_matrix.specs.Table.{unitsOf}
 use Rattle.reg_matrix.specs.Refusals.{refusal, _if_, shortBuffer}
 use Rattle.reg_matrix.specs.Layout.{maxEntries, maxFixed}
-use Rattle.matrix.specs.Search.{placeOf}
+use Rattle.table_words.specs.Search.{placeOf}
 use Rattle.reg_matrix.specs.declared.ValueSegment.{ValueSegment}
 use Rattle.entries.specs.declared.Moved.{Moved}
 use Rattle.entries.specs.declared.Moved.the-variants.{Done, Refused}

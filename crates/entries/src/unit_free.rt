@@ -7,7 +7,7 @@ ghost use Rattle.reg_matrix.specs.Questions.{spareRefusal};
 ghost use Rattle.entries.specs.Placing.{freeAt, range, spareAnswer};
 use crate::UnitFree;
 use lent::at;
-use matrix::search::find;
+use table_words::search::find;
 
 // Whether the unit's first entry that ends past `from`, if there is one, starts past `to`.
 fn free_at(ends: &[u64], rests: &[u64], unit: u8, from: u32, to: u32) -> bool

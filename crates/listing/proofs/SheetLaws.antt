@@ -24,7 +24,7 @@ use Rattle.reg_matrix.proofs.Places.{padded-length, from-zero}
 use Rattle.entries.specs.Moves.{words}
 use Rattle.entries.specs.Placing.{freeAt, range, spareAnswer}
 use Rattle.placing.proofs.Asked.{filled-at}
-use Rattle.matrix.proofs.Decode.{entry-back}
+use Rattle.table_words.proofs.Decode.{entry-back}
 use Rattle.placing.proofs.Evicted.{word-at}
 use Rattle.job.specs.Model.{Job}
 use Rattle.job.specs.Layout.{jobBuffers, probeOf, headerOf}

@@ -15,7 +15,7 @@ use allocator::Ending;
 use job::JobHeader;
 use job::Probe;
 use lent::at;
-use matrix::words::entry_of;
+use table_words::words::entry_of;
 
 // The line `refused N` into a lent line, with its length. A line of 256 bytes has room for it; what there is no room for is not stored.
 pub fn refused(n: u8, line: &mut [u8]) -> usize

@@ -11,7 +11,8 @@ use lib.Bits.{bitAnd}
 use lib.Count.{trailingZeros}
 use Rattle.reg_matrix.specs.Check.{sharedPart, wholeUse}
 use Rattle.reg_matrix.specs.Layout.{maxEntries, maxFixed, entryOf, useOf}
-use Rattle.matrix.specs.Search.{placeOf}
+use Rattle.table_words.specs.Search.{placeOf}
+use Rattle.table_words.specs.Segments.{segmentAt}
 use Rattle.reg_matrix.specs.declared.ValueSegment.{ValueSegment}
 use Rattle.reg_matrix.specs.declared.Entry.{Entry}
 use Rattle.reg_matrix.specs.declared.FixedIndex.the-variants.{At, NoIndex}
@@ -40,18 +41,6 @@ abbrev pub lent : List ℕ → List ℕ → List ℕ → List ℕ → List ℕ �
 lent es rs us fs ts vs = record { ends = es; rests = rs; uses = us; froms = fs; tos = ts; values = vs }
 
 -- ---- what stands at a place
-
-abbrev pub segmentAt : List ℕ → List ℕ → List ℕ → ℕ → ValueSegment
-segmentAt fs ts vs n = record { from = getD fs n 0; to = getD ts n 0; value = getD vs n 0 }
-
--- k segments from number n on
-unfoldable pub segmentsFrom : List ℕ → List ℕ → List ℕ → ℕ → ℕ → List ValueSegment
-segmentsFrom fs ts vs n zero = []
-segmentsFrom fs ts vs n (suc k) = segmentAt fs ts vs n ∷ segmentsFrom fs ts vs (suc n) k
-
--- all of them: as many as there are starts
-abbrev pub segmentsIn : List ℕ → List ℕ → List ℕ → List ValueSegment
-segmentsIn fs ts vs = segmentsFrom fs ts vs 0 (length fs)
 
 abbrev pub entryAt : Lent → ℕ → Entry
 entryAt W n = entryOf (getD (W .ends) n 0) (getD (W .rests) n 0)
@@ -173,11 +162,6 @@ heard W (Report x d) = x ∷ remaining W d
 heard W End = []
 
 -- ---- the start
-
--- a refusal as a number: 0 where there is none
-abbrev pub refusalNumber : Option ℕ → ℕ
-refusalNumber none = 0
-refusalNumber (some n) = n
 
 abbrev pub startOf : Option ℕ → Cursor → Start
 startOf none c = Checking c

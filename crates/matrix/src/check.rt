@@ -6,17 +6,12 @@ ghost use lib.ListN.{length, getD, take};
 ghost use Rattle.reg_matrix.specs.Check.{sharedPart};
 ghost use mathlib.Core.List.{[], _∷_};
 ghost use Rattle.reg_matrix.specs.Questions.{checkRefusal};
-ghost use Rattle.matrix.specs.Walk.{Answered, startOf, segmentsIn, lent, laterUnits, nextEntry, nextSegment, nextUse, onward, underEntry, entered, meeting, entryStep, useMeeting, useStep, leaveUnit, unitStep, stepOf};
+ghost use Rattle.table_words.specs.Segments.{segmentsIn};
+ghost use Rattle.matrix.specs.Walk.{Answered, startOf, lent, laterUnits, nextEntry, nextSegment, nextUse, onward, underEntry, entered, meeting, entryStep, useMeeting, useStep, leaveUnit, unitStep, stepOf};
 use crate::Cursor;
 use crate::Move;
 use crate::Start;
 use crate::Step;
-use crate::ranges::ranges_refusal;
-use crate::ranges::short_buffers;
-use crate::search::find;
-use crate::search::search;
-use crate::words::entry_of;
-use crate::words::use_of;
 use lent::at;
 use lent::at16;
 use lent::at32;
@@ -26,6 +21,12 @@ use reg_matrix::Interference;
 use reg_matrix::InterferenceKind;
 use reg_matrix::Reservation;
 use reg_matrix::ValueSegment;
+use table_words::ranges::ranges_refusal;
+use table_words::ranges::short_buffers;
+use table_words::search::find;
+use table_words::search::search;
+use table_words::words::entry_of;
+use table_words::words::use_of;
 
 fn wide(x: u32) -> u64
     ensures { λ r. ⌜ r ≡ x ⌝ }

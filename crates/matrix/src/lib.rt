@@ -1,12 +1,10 @@
-// The reservation matrix in code (`reg_matrix.rs`): its words, the search in them and the check; the crate placing has what changes it. Its
-// definitions are those of the crate reg_matrix, whose tables and laws each must-fail edit of a definition checks without this code.
+// The reservation matrix in code (`reg_matrix.rs`): the check of a register, over the words of the crate table_words; the crate placing has what
+// changes the table. Its definitions are those of the crate reg_matrix, whose tables and laws each must-fail edit of a definition checks
+// without this code.
 
 use reg_matrix::Interference;
 
 pub mod check;
-mod ranges;
-pub mod search;
-pub mod words;
 
 // A position of a check: the units of the register's map that are still to be walked, the current one the lowest; the segment and the
 // entry that are compared next; 0, or one more than the place of the next fixed use under that entry; and which form is asked for.

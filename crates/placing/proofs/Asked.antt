@@ -15,7 +15,7 @@ use Rattle.reg_matrix.specs.Lists.{keep, filter, first, padded}
 use Rattle.reg_matrix.specs.Table.{Table, onUnit}
 use Rattle.reg_matrix.specs.Questions.{startsPast, isUnitFree}
 use Rattle.reg_matrix.specs.Layout.{maxEntries, greatest, endWord, restWord, reservationWord, endWords, restWords}
-use Rattle.matrix.specs.Search.{placeOf, below}
+use Rattle.table_words.specs.Search.{placeOf, below}
 use Rattle.entries.specs.Moves.{Words}
 use Rattle.entries.specs.Placing.{freeAt, range}
 use Rattle.reg_matrix.specs.declared.Entry.{Entry}

@@ -18,7 +18,8 @@ use Rattle.reg_matrix.specs.Table.{Table, fixedUses, onUnit}
 use Rattle.reg_matrix.specs.Check.{checkOn, check}
 use Rattle.reg_matrix.specs.Assign.{heldBy, fixedIndex}
 use Rattle.reg_matrix.specs.Layout.{maxEntries, maxFixed, useValue}
-use Rattle.matrix.specs.Walk.{Lent, segmentsIn, entered, laterUnits, stepOf, emit, remaining}
+use Rattle.table_words.specs.Segments.{segmentsIn}
+use Rattle.matrix.specs.Walk.{Lent, entered, laterUnits, stepOf, emit, remaining}
 use Rattle.reg_matrix.specs.declared.ValueSegment.{ValueSegment}
 use Rattle.reg_matrix.specs.declared.Entry.{Entry}
 use Rattle.reg_matrix.specs.declared.FixedIndex.{FixedIndex}
@@ -33,10 +34,10 @@ use Rattle.reg_matrix.proofs.Chains.{Sound}
 use Rattle.reg_matrix.proofs.Apart.{entry-nonempty}
 use Rattle.reg_matrix.proofs.Capacity.{OfCell}
 use Rattle.reg_matrix.proofs.Laws.{Matrix, table-size, entry-source, index-size, unit-chain}
-use Rattle.matrix.proofs.Starts.{Passed, ranges-passed}
+use Rattle.table_words.proofs.RangeLaws.{Passed, ranges-passed}
 use Rattle.matrix.proofs.Walks.{remaining-step}
 use Rattle.matrix.proofs.UnitMaps.{no-units, first-unit, units-lowest}
-use Rattle.matrix.proofs.Decode.{SmallIndex, SmallReservation, Small}
+use Rattle.table_words.proofs.Decode.{SmallIndex, SmallReservation, Small}
 use Rattle.placing.proofs.Reading.{Holds, Walkable}
 use Rattle.placing.proofs.Lying.{AllSmall, use-small}
 use Rattle.placing.proofs.Moving.{SmallCells}

@@ -16,7 +16,7 @@ use Rattle.reg_matrix.specs.Lists.{keep, filter, first, putBefore, insertBy, fo
 use Rattle.reg_matrix.specs.Table.{Table, isUse, before, fixedUses, insert, insertAll}
 use Rattle.reg_matrix.specs.Assign.{fixedIndex, entryOf, heldBy, usesFrom, putBack, evictSegment}
 use Rattle.reg_matrix.specs.Layout.{maxEntries, maxFixed, greatest, endWord, restWord, endWords, restWords, reservationWord, indexWord, useValue, useWord, useWords}
-use Rattle.matrix.specs.Search.{placeOf, below}
+use Rattle.table_words.specs.Search.{placeOf, below}
 use Rattle.entries.specs.Moves.{Words, inserting, removing}
 use Rattle.entries.specs.Placing.{insertingUse, insertingUses, isOwn, firstUnder, evictingSegment, unitKey}
 use Rattle.reg_matrix.specs.declared.Entry.{Entry}

@@ -13,7 +13,7 @@ use Rattle.reg_matrix.specs.Lists.{keep, filter, concatMap, count}
 use Rattle.reg_matrix.specs.Table.{isUse, fixedUses}
 use Rattle.reg_matrix.specs.Assign.{firstUse}
 use Rattle.reg_matrix.specs.Layout.{maxFixed, greatest, useValue, useWord, useWords}
-use Rattle.matrix.specs.Search.{placeOf, Rises, below}
+use Rattle.table_words.specs.Search.{placeOf, Rises, below}
 use Rattle.entries.specs.Placing.{unitKey, useKey, usesBefore}
 use Rattle.reg_matrix.specs.declared.ValueSegment.{ValueSegment}
 use Rattle.reg_matrix.specs.declared.Entry.{Entry}
@@ -22,8 +22,8 @@ use Rattle.reg_matrix.specs.declared.Reservation.the-variants.{Held, FixedUse, 
 use Rattle.reg_matrix.proofs.Members.{_∈_, filter-none, fixedUses-out, concat-out}
 use Rattle.reg_matrix.proofs.Small.{SmallEntry}
 use Rattle.reg_matrix.proofs.Chains.{Sound}
-use Rattle.matrix.proofs.Decode.{SmallUse}
-use Rattle.matrix.proofs.UseWords.{units-rise}
+use Rattle.table_words.proofs.Decode.{SmallUse}
+use Rattle.table_words.proofs.UseWords.{units-rise}
 use Rattle.placing.proofs.Standing.{below-step, below-past, below-none, below-all, below-append, found-padded}
 
 abbrev pub AllSmall : List Entry → Type 0

@@ -15,7 +15,7 @@ use Rattle.reg_matrix.specs.Lists.{filter, any, isNil}
 use Rattle.reg_matrix.specs.Table.{Table, fixedUses}
 use Rattle.reg_matrix.specs.Assign.{replaced, firstUse, fixedIndex, assignSegment}
 use Rattle.reg_matrix.specs.Layout.{maxEntries, endWord, indexWord, restWord}
-use Rattle.matrix.specs.Search.{placeOf, below}
+use Rattle.table_words.specs.Search.{placeOf, below}
 use Rattle.entries.specs.Moves.{Words, removingRun}
 use Rattle.entries.specs.Placing.{indexPart, heldWord, assigningSegment}
 use Rattle.reg_matrix.specs.declared.Entry.{Entry}

@@ -12,7 +12,8 @@ use borrow.Author.Tests.{le-leb, lt-leb, eq-eqb, ne-eqb}
 use Rattle.reg_matrix.specs.Lists.{padded}
 use Rattle.reg_matrix.specs.Table.{Table, fixedUses, onUnit}
 use Rattle.reg_matrix.specs.Layout.{maxEntries, maxFixed, greatest, endWord, restWord, useWord, endWords, restWords, useWords, entryOf}
-use Rattle.matrix.specs.Walk.{Lent, segmentAt, entryAt, entryStep, useStep, leaveUnit, unitStep, stepOf}
+use Rattle.table_words.specs.Segments.{segmentAt}
+use Rattle.matrix.specs.Walk.{Lent, entryAt, entryStep, useStep, leaveUnit, unitStep, stepOf}
 use Rattle.reg_matrix.specs.declared.ValueSegment.{ValueSegment}
 use Rattle.reg_matrix.specs.declared.Entry.{Entry}
 use Rattle.reg_matrix.specs.declared.FixedIndex.the-variants.{At}
@@ -24,7 +25,7 @@ use Rattle.reg_matrix.proofs.Sorted.{Sorted}
 use Rattle.reg_matrix.proofs.Chains.{Chain}
 use Rattle.matrix.proofs.Walks.{cond-by}
 use Rattle.placing.proofs.Lying.{allUses}
-use Rattle.matrix.proofs.Decode.{Small, SmallUse, entry-back, drop-inside, drop-past, word-at, word-past}
+use Rattle.table_words.proofs.Decode.{Small, SmallUse, entry-back, drop-inside, drop-past, word-at, word-past}
 
 -- what is lent holds the table and the fixed uses
 pub record Holds (fixed : List Entry) (t : Table) (W : Lent) : Type 0 where

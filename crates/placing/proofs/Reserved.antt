@@ -13,7 +13,7 @@ use borrow.Author.Tests.{lt-ltb, eq-eqb, ne-eqb}
 use Rattle.reg_matrix.specs.Lists.{keep, filter, concatMap, count, padded}
 use Rattle.reg_matrix.specs.Table.{Table, isUse, fixedUses, insert}
 use Rattle.reg_matrix.specs.Layout.{maxEntries, maxFixed, greatest, endWord, restWord, reservationWord, endWords, restWords, useWord, useWords}
-use Rattle.matrix.specs.Search.{placeOf}
+use Rattle.table_words.specs.Search.{placeOf}
 use Rattle.entries.specs.Moves.{Words, words, inserting, inserted}
 use Rattle.entries.specs.Placing.{insertingUse, useKey}
 use Rattle.entries.specs.Reserving.{filled, insertingWord}

@@ -13,16 +13,16 @@ use borrow.Author.Tests.{lt-ltb, le-ltb, ltb-true, ltb-false}
 use Rattle.reg_matrix.specs.Lists.{keep, filter, putBefore, insertBy, padded}
 use Rattle.reg_matrix.specs.Table.{Table, before, insert}
 use Rattle.reg_matrix.specs.Layout.{maxEntries, greatest, endWord, restWord, endWords, restWords}
-use Rattle.matrix.specs.Search.{placeOf, Rises, below}
+use Rattle.table_words.specs.Search.{placeOf, Rises, below}
 use Rattle.entries.specs.Moves.{Words, entries, inserted, removed, inserting, removing, removingRun}
 use Rattle.reg_matrix.specs.declared.Entry.{Entry}
 use Rattle.reg_matrix.proofs.Places.{insert-longer}
 use Rattle.reg_matrix.proofs.Tests.{same-test, lt-or-le}
 use Rattle.reg_matrix.proofs.Members.{_∈_}
 use Rattle.reg_matrix.proofs.Sorted.{Before, before→, →before, Below, below-out, below-in, Sorted}
-use Rattle.matrix.proofs.Halves.{below-length, place-searched}
-pub use Rattle.matrix.proofs.Halves.{none-below as below-none}
-use Rattle.matrix.proofs.Decode.{replicate-in, replicate-rises}
+use Rattle.table_words.proofs.Halves.{below-length, place-searched}
+pub use Rattle.table_words.proofs.Halves.{none-below as below-none}
+use Rattle.table_words.proofs.Decode.{replicate-in, replicate-rises}
 use Rattle.entries.proofs.Shifts.{inserted-room, removed-room}
 
 -- ---- numbers that rise, and what is behind them

@@ -16,8 +16,9 @@ use Rattle.reg_matrix.specs.Lists.{keep, filter, any, padded}
 use Rattle.reg_matrix.specs.Table.{Table, fixedUses, onUnit}
 use Rattle.reg_matrix.specs.Check.{overlaps, indexed, ownUse, sharedPart, wholeUse, usesUnder, reportsOf, counts, checkOn}
 use Rattle.reg_matrix.specs.Layout.{maxEntries, maxFixed, greatest, endWord, useValue, endWords, useOf}
-use Rattle.matrix.specs.Search.{below, placeOf}
-use Rattle.matrix.specs.Walk.{Lent, segmentAt, segmentsFrom, entryAt, onward, underEntry, entered, meeting, entryStep, useMeeting, useStep, laterUnits, leaveUnit, stepOf, emit, remaining}
+use Rattle.table_words.specs.Search.{below, placeOf}
+use Rattle.table_words.specs.Segments.{segmentAt, segmentsFrom}
+use Rattle.matrix.specs.Walk.{Lent, entryAt, onward, underEntry, entered, meeting, entryStep, useMeeting, useStep, laterUnits, leaveUnit, stepOf, emit, remaining}
 use Rattle.reg_matrix.specs.declared.ValueSegment.{ValueSegment}
 use Rattle.reg_matrix.specs.declared.Entry.{Entry}
 use Rattle.reg_matrix.specs.declared.FixedIndex.the-variants.{At, NoIndex}
@@ -32,12 +33,12 @@ use Rattle.reg_matrix.proofs.Members.{_∈_, filter-none, drop-out, fixedUses-o
 use Rattle.reg_matrix.proofs.Sorted.{Before, Sorted, before→, below-out}
 use Rattle.reg_matrix.proofs.Chains.{Chain, chain-drop}
 use Rattle.reg_matrix.proofs.Whole.{Rising}
-use Rattle.matrix.proofs.Halves.{none-below, below-cons}
-use Rattle.matrix.proofs.Starts.{or-none}
+use Rattle.table_words.proofs.Halves.{none-below, below-cons}
+use Rattle.table_words.proofs.RangeLaws.{or-none}
 use Rattle.matrix.proofs.Walks.{remaining-step}
 use Rattle.matrix.proofs.Passing.{ahead, behind, meets, counts-same, counts-stay, counts-once, check-end, check-empty, pass-entry, pass-segment, pass-stay, pass-on}
-use Rattle.matrix.proofs.UseWords.{uses-at, back-other}
-use Rattle.matrix.proofs.Decode.{Small, SmallUse, use-back, use-value, drop-next, drop-inside}
+use Rattle.table_words.proofs.UseWords.{uses-at, back-other}
+use Rattle.table_words.proofs.Decode.{Small, SmallUse, use-back, use-value, drop-next, drop-inside}
 use Rattle.placing.proofs.Standing.{SmallEnds, words-small, words-rise, found-padded}
 use Rattle.placing.proofs.Lying.{allUses}
 use Rattle.placing.proofs.Reading.{Holds, Walkable, entry-here, entry-past, use-here, use-past, step-no-segment, step-no-entry, step-other, step-entry, step-use}

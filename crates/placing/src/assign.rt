@@ -15,8 +15,8 @@ use entries::table::remove;
 use entries::table::remove_run;
 use lent::at;
 use lent::at32;
-use matrix::search::find;
-use matrix::search::search;
+use table_words::search::find;
+use table_words::search::search;
 
 // a - b, or 0 where b is greater.
 fn minus(a: usize, b: usize) -> usize

@@ -7,7 +7,8 @@ use mathlib.Core.Option.{Option, some}
 use mathlib.Core.Bool.{Bool, cond}
 use lib.ListN.{length, getD, take}
 use Rattle.reg_matrix.specs.Questions.{checkRefusal}
-use Rattle.matrix.specs.Walk.{startOf, segmentsIn, entered}
+use Rattle.table_words.specs.Segments.{segmentsIn}
+use Rattle.matrix.specs.Walk.{startOf, entered}
 use Rattle.entries.specs.Moves.{Words}
 use Rattle.entries.specs.Placing.{moved, moveRefusal, sizes, unlessRefused, assigning, evicting}
 use Rattle.matrix.specs.declared.Start.{Start}

@@ -18,8 +18,9 @@ use Rattle.reg_matrix.proofs.Members.{_∈_, unitsOf-out}
 use Rattle.reg_matrix.proofs.Places.{padded-length}
 use Rattle.reg_matrix.proofs.Cells.{Cell}
 use Rattle.reg_matrix.proofs.Laws.{table-size}
-use Rattle.matrix.specs.Walk.{Lent, segmentsIn, entered, remaining}
-use Rattle.matrix.proofs.Starts.{passed-ranges, segments-back}
+use Rattle.table_words.specs.Segments.{segmentsIn}
+use Rattle.matrix.specs.Walk.{Lent, entered, remaining}
+use Rattle.table_words.proofs.RangeLaws.{passed-ranges, segments-back}
 use Rattle.placing.proofs.Reading.{Holds, Walkable}
 use Rattle.placing.proofs.Lying.{AllSmall, allUses}
 use Rattle.placing.proofs.Moving.{SmallCells, SmallPoints}

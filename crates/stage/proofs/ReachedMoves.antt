@@ -17,7 +17,7 @@ use Rattle.reg_matrix.proofs.Laws.{Matrix}
 use Rattle.entries.specs.Moves.{Words, words}
 use Rattle.entries.specs.Placing.{Assigned, Evicted, freeAt, range}
 use Rattle.entries.specs.declared.Moved.{Moved}
-use Rattle.matrix.proofs.Decode.{fits-word}
+use Rattle.table_words.proofs.Decode.{fits-word}
 use Rattle.placing.proofs.Standing.{Stands}
 use Rattle.placing.proofs.Lying.{UsesLie}
 use Rattle.placing.proofs.Moving.{SmallCells}

@@ -18,7 +18,7 @@ use Rattle.entries.specs.declared.Moved.{Moved}
 use Rattle.segment_fields.specs.declared.Fields.{Fields}
 use Rattle.segment_fields.specs.Apart.{maxSegments, takenApart, fromsIn, tosIn, valuesIn, fromsOf, tosOf, valuesOf}
 use Rattle.segment_calls.specs.Answers.{unlessLong, checkAnswer, AssignAnswer, EvictAnswer}
-use Rattle.matrix.proofs.Starts.{segments-back}
+use Rattle.table_words.proofs.RangeLaws.{segments-back}
 use Rattle.segment_fields.proofs.ApartLaws.{froms-apart, tos-apart, values-apart, long-apart}
 use Rattle.segment_calls.proofs.ListAnswers.{answered-at}
 

@@ -1,7 +1,7 @@
 use mathlib.Core.Path.{sym}
 use borrow.Author.Tests.{lt-ltb, le-ltb}
 use Rattle.reg_matrix.specs.Refusals.{shortBuffer}
-use Rattle.matrix.proofs.Starts.{or-none}
+use Rattle.table_words.proofs.RangeLaws.{or-none}
 use Rattle.loader.proofs.buffers.is_short.Statement.{statement}
 use Rattle.loader.proofs.buffers.is_short.Tie as tie
 

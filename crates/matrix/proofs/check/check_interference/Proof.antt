@@ -4,8 +4,10 @@ use mathlib.Core.Path.{sym, _∙_}
 use mathlib.Core.List.{[]}
 use lib.ListN.{getD}
 use Rattle.reg_matrix.specs.Refusals.{rangesRefusal}
-use Rattle.matrix.specs.Walk.{segmentsIn, entered}
-use Rattle.matrix.proofs.Starts.{tests, past-lent, past-count, no-register, refused-by, ranges-none}
+use Rattle.table_words.specs.Segments.{segmentsIn}
+use Rattle.matrix.specs.Walk.{entered}
+use Rattle.table_words.proofs.RangeLaws.{ranges-none}
+use Rattle.matrix.proofs.Starts.{tests, past-lent, past-count, no-register, refused-by}
 use Rattle.matrix.proofs.check.check_interference.Statement.{statement}
 use Rattle.matrix.proofs.check.check_interference.Tie as tie
 

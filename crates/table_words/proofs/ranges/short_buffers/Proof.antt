@@ -1,9 +1,9 @@
 use borrow.Author.Tests.{lt-ltb, le-ltb}
 use native.Mathlib.Omega.{arith}
 use Rattle.reg_matrix.specs.Refusals.{shortBuffer}
-use Rattle.matrix.proofs.Starts.{or-none}
-use Rattle.matrix.proofs.ranges.short_buffers.Statement.{statement}
-use Rattle.matrix.proofs.ranges.short_buffers.Tie as tie
+use Rattle.table_words.proofs.RangeLaws.{or-none}
+use Rattle.table_words.proofs.ranges.short_buffers.Statement.{statement}
+use Rattle.table_words.proofs.ranges.short_buffers.Tie as tie
 
 returns : tie.Need-returns
 unfolding shortBuffer

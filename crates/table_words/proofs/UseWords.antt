@@ -12,13 +12,13 @@ use borrow.Author.Tests.{lt-ltb, le-ltb}
 use Rattle.reg_matrix.specs.Lists.{filter, concatMap, count, padded}
 use Rattle.reg_matrix.specs.Table.{fixedUses}
 use Rattle.reg_matrix.specs.Layout.{maxFixed, greatest, useWord, useWords}
-use Rattle.matrix.specs.Search.{placeOf, Rises, below}
+use Rattle.table_words.specs.Search.{placeOf, Rises, below}
 use Rattle.reg_matrix.specs.declared.Entry.{Entry}
 use Rattle.reg_matrix.proofs.Members.{_∈_, concat-out, count-out, fixedUses-out}
 use Rattle.reg_matrix.proofs.Chains.{Chain}
-use Rattle.matrix.proofs.Halves.{none-below, below-cons, place-searched}
+use Rattle.table_words.proofs.Halves.{none-below, below-cons, place-searched}
 use Rattle.reg_matrix.proofs.Places.{concat-append, padded-length}
-use Rattle.matrix.proofs.Decode.{SmallUse, rises-append, replicate-in, replicate-rises, map-out, uses-below}
+use Rattle.table_words.proofs.Decode.{SmallUse, rises-append, replicate-in, replicate-rises, map-out, uses-below}
 
 -- ---- lists
 

@@ -1,8 +1,8 @@
 use Rattle.reg_matrix.specs.Layout.{useOf}
 use borrow.Author.Needs.{needs}
 use borrow.Author.Tests.{lt-ltb, le-ltb, le-leb, lt-leb, eq-eqb, ne-eqb}
-use Rattle.matrix.proofs.words.use_of.Statement.{statement}
-use Rattle.matrix.proofs.words.use_of.Tie as tie
+use Rattle.table_words.proofs.words.use_of.Statement.{statement}
+use Rattle.table_words.proofs.words.use_of.Tie as tie
 
 cast-t5 : tie.Need-cast-t5
 cast-t5 c = search needs

@@ -2,8 +2,8 @@ use borrow.Author.Needs.{needs}
 use borrow.Author.Tests.{lt-ltb, le-ltb, le-leb, lt-leb}
 use mathlib.Core.Path.{sym, _∙_}
 use Rattle.reg_matrix.specs.Refusals.{rangeRefusal, refusal}
-use Rattle.matrix.proofs.ranges.range_refusal.Statement.{statement}
-use Rattle.matrix.proofs.ranges.range_refusal.Tie as tie
+use Rattle.table_words.proofs.ranges.range_refusal.Statement.{statement}
+use Rattle.table_words.proofs.ranges.range_refusal.Tie as tie
 
 returns : tie.Need-returns
 unfolding rangeRefusal refusal

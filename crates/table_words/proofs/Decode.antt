@@ -9,7 +9,7 @@ use mathlib.Core.List.{List, [], _∷_, _++_, map, List·Memᴰ·head, List·Mem
 use lib.ListN.{length, drop, getD, replicate, getD-replicate}
 use borrow.Author.Tests.{lt-ltb, le-ltb, ne-eqb}
 use Rattle.reg_matrix.specs.Layout.{greatest, endWord, restWord, reservationWord, useWord, useValue, reservationOf, entryOf, useOf}
-use Rattle.matrix.specs.Search.{Rises}
+use Rattle.table_words.specs.Search.{Rises}
 use Rattle.reg_matrix.specs.declared.Entry.{Entry}
 use Rattle.reg_matrix.specs.declared.FixedIndex.{FixedIndex}
 use Rattle.reg_matrix.specs.declared.FixedIndex.the-variants.{At, NoIndex}

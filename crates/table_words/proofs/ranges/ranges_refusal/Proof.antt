@@ -4,10 +4,10 @@ use mathlib.Core.Path.{_≡_, sym, ap, _∙_}
 use mathlib.Core.List.{[]}
 use lib.ListN.{length}
 use Rattle.reg_matrix.specs.Refusals.{rangesRefusal}
-use Rattle.matrix.specs.Walk.{refusalNumber, segmentsFrom, segmentsIn}
-use Rattle.matrix.proofs.Starts.{range-told, ranges-start, ranges-stop, ranges-go, ranges-end}
-use Rattle.matrix.proofs.ranges.ranges_refusal.Statement.{statement}
-use Rattle.matrix.proofs.ranges.ranges_refusal.Tie as tie
+use Rattle.table_words.specs.Segments.{refusalNumber, segmentsFrom, segmentsIn}
+use Rattle.table_words.proofs.RangeLaws.{range-told, ranges-start, ranges-stop, ranges-go, ranges-end}
+use Rattle.table_words.proofs.ranges.ranges_refusal.Statement.{statement}
+use Rattle.table_words.proofs.ranges.ranges_refusal.Tie as tie
 
 abbrev Inv-loop : tie.InvT-loop
 Inv-loop froms tos past₀ i₀ past i = rangesRefusal 0 (segmentsIn froms tos []) ≡ rangesRefusal past (segmentsFrom froms tos [] i (length froms - i))

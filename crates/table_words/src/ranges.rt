@@ -3,7 +3,7 @@ ghost use mathlib.Core.Path.{_≡_};
 ghost use mathlib.Core.List.{[], _∷_};
 ghost use Rattle.reg_matrix.specs.Refusals.{rangeRefusal, rangesRefusal, shortBuffer, badSlot};
 ghost use Rattle.reg_matrix.specs.Questions.{checkLimits};
-ghost use Rattle.matrix.specs.Walk.{refusalNumber, segmentsIn};
+ghost use Rattle.table_words.specs.Segments.{refusalNumber, segmentsIn};
 use lent::at32;
 
 // Whether a buffer lent to a check is shorter than its limit: the segments have as many ends and values as starts.
@@ -43,7 +43,7 @@ fn bad_slot(point: u32) -> bool
 }
 
 // 5, 6 or 7 of a range that may not start before `past`, or 0.
-pub fn range_refusal(past: u32, from: u32, to: u32) -> u8
+fn range_refusal(past: u32, from: u32, to: u32) -> u8
     ensures { λ r. ⌜ r ≡ refusalNumber (rangeRefusal past (record { from = from; to = to; value = 0 })) ⌝ }
 {
     if to <= from {

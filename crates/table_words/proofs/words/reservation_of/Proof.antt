@@ -1,8 +1,8 @@
 use Rattle.reg_matrix.specs.Layout.{reservationOf}
 use borrow.Author.Needs.{needs}
 use borrow.Author.Tests.{lt-ltb, le-ltb, le-leb, lt-leb, eq-eqb, ne-eqb}
-use Rattle.matrix.proofs.words.reservation_of.Statement.{statement}
-use Rattle.matrix.proofs.words.reservation_of.Tie as tie
+use Rattle.table_words.proofs.words.reservation_of.Statement.{statement}
+use Rattle.table_words.proofs.words.reservation_of.Tie as tie
 
 returns : tie.Need-returns
 unfolding reservationOf

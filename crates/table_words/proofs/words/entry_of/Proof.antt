@@ -1,7 +1,7 @@
 use Rattle.reg_matrix.specs.Layout.{entryOf}
 use borrow.Author.Needs.{needs}
-use Rattle.matrix.proofs.words.entry_of.Statement.{statement}
-use Rattle.matrix.proofs.words.entry_of.Tie as tie
+use Rattle.table_words.proofs.words.entry_of.Statement.{statement}
+use Rattle.table_words.proofs.words.entry_of.Tie as tie
 
 cast-t5 : tie.Need-cast-t5
 cast-t5 c = search needs

@@ -1,0 +1,4 @@
+pub mod Halves
+pub mod RangeLaws
+pub mod Decode
+pub mod UseWords
