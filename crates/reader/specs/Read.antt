@@ -20,14 +20,6 @@ use Rattle.reader.specs.declared.read.Number.{Number}
 use Rattle.reader.specs.declared.read.Number.the-variants.{Is as IsNumber, Refused as NoNumber}
 use Rattle.reader.specs.declared.read.Next.{Next}
 use Rattle.reader.specs.declared.read.Next.the-variants.{At, Refused as NoNext}
-use Rattle.reader.specs.declared.fixed.FixedRead.{FixedRead}
-use Rattle.reader.specs.declared.fixed.FixedRead.the-variants.{Is as IsFixed, Short as NoFixed}
-use Rattle.reader.specs.declared.fixed.EntryTest.{EntryTest}
-use Rattle.reader.specs.declared.fixed.EntryTest.the-variants.{Is as IsEntry, Refused as NoEntry}
-use Rattle.reader.specs.declared.fixed.EntryRead.{EntryRead}
-use Rattle.reader.specs.declared.fixed.EntryRead.the-variants.{Is as ReadEntry, Refused as UnreadEntry}
-use Rattle.reader.specs.declared.regs.ClassesRead.{ClassesRead}
-use Rattle.reader.specs.declared.regs.ClassesRead.the-variants.{Is as IsClasses, Refused as NoClasses}
 use Rattle.job.specs.Model.{VirtReg}
 use Rattle.job.specs.Parser.{Parser, Parsed, refused, parsed, little, ifBit, each, _>>=_}
 use Rattle.job.specs.Load.{countOf, fixedFields, fixedTests}
@@ -94,47 +86,13 @@ pub record ClassesAt (b m b′ m′ : List ℕ) (cs : List (List ℕ)) : Type 0 
   pub starts : Stored (λ (x : ℕ). x) b 0 (startsFrom length 0 cs) b′
   pub members : Stored (λ (x : ℕ). x) m 0 (allMembers cs) m′
 
-abbrev pub ClassesOut : List ℕ → Parsed (List (List ℕ)) → ClassesRead → (List (List ℕ) → Type 0) → Type 0
-ClassesOut s p (NoClasses n) stored = p ≡ refused n
-ClassesOut s p (IsClasses n k at) stored =
-    (cs : List (List ℕ)) × (p ≡ parsed cs (drop at s)) × (length cs ≡ n) × (length (allMembers cs) ≡ k) × (k ≤ 1024) × stored cs
-
 -- ---- fixed reservations
-
-abbrev pub fixedView : List ℕ → FixedRead → Parsed FixedFields
-fixedView s (IsFixed f at) = parsed f (drop at s)
-fixedView s NoFixed = refused 1
-
-abbrev pub testView : EntryTest → List ℕ → Parsed Entry
-testView (IsEntry e) t = parsed e t
-testView (NoEntry n) t = refused n
-
-abbrev pub testUnit : EntryTest → ℕ
-testUnit (IsEntry e) = e .unit
-testUnit (NoEntry n) = 0
-
--- the tests' answer, and its unit is known
-pub record EntryTested (p : Parser Entry) (r : EntryTest) : Type 0 where
-  pub view : (t : List ℕ) → testView r t ≡ p t
-  pub unit : testUnit r < 64
-
-abbrev pub entryView : List ℕ → EntryRead → Parsed Entry
-entryView s (ReadEntry e at) = parsed e (drop at s)
-entryView s (UnreadEntry n) = refused n
-
-abbrev pub entryUnit : EntryRead → ℕ
-entryUnit (ReadEntry e at) = e .unit
-entryUnit (UnreadEntry n) = 0
 
 -- a reservation, where the last of each unit ends at `ends`
 unfoldable pub reservationAfter : List ℕ → Parser Entry
 reservationAfter ends = do
   f ← fixedFields
   fixedTests (getD ends (f .unit) 0) f
-
-pub record EntryAt (s : List ℕ) (at : ℕ) (ends : List ℕ) (r : EntryRead) : Type 0 where
-  pub view : entryView s r ≡ reservationAfter ends (drop at s)
-  pub unit : entryUnit r < 64
 
 -- a fixed use's value and 1; 0 for any other reservation
 abbrev pub useNumber : Reservation → ℕ

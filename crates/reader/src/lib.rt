@@ -1,5 +1,2 @@
-// Reading a job: its numbers, registers, classes and fixed reservations from bytes into lent numbers, each as the parsers of the crate job say.
-
-pub mod fixed;
+// Reading a job: its numbers from bytes, each as the parsers of the crate job say. Tables of them are read by the crates above.
 pub mod read;
-pub mod regs;

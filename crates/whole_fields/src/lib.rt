@@ -9,17 +9,17 @@ ghost use Rattle.whole_fields.specs.Probe.{probeView, probeField};
 ghost use Rattle.whole_fields.specs.Whole.{FirstOut, LastOut, JobOut, JobAt};
 use fields::virt::VirtTable;
 use fields::virt::virt_table;
+use fixed_reader::fixed_table;
 use job::JobHeader;
 use job::Probe;
-use reader::fixed::fixed_table;
 use reader::read::Number;
 use reader::read::Read;
 use reader::read::byte;
 use reader::read::word;
 use reader::read::word_if;
-use reader::regs::ClassesRead;
-use reader::regs::class_table;
-use reader::regs::reg_table;
+use reg_reader::ClassesRead;
+use reg_reader::class_table;
+use reg_reader::reg_table;
 
 // The probe range with the position after it, or a refusal's number.
 pub enum ProbeRead {
