@@ -9,12 +9,6 @@ use lib.Seq.{sets}
 use Rattle.reg_matrix.specs.declared.ValueSegment.{ValueSegment}
 use Rattle.job.specs.declared.Hint.{Hint}
 use Rattle.job.specs.declared.VirtRegFields.{VirtRegFields}
-use Rattle.fields.specs.declared.virt.SegmentRead.{SegmentRead}
-use Rattle.fields.specs.declared.virt.SegmentRead.the-variants.{Is as IsSegment, Refused as NoSegment}
-use Rattle.fields.specs.declared.virt.HintRead.{HintRead}
-use Rattle.fields.specs.declared.virt.HintRead.the-variants.{Is as IsHint, Refused as NoHint}
-use Rattle.fields.specs.declared.virt.FieldsRead.{FieldsRead}
-use Rattle.fields.specs.declared.virt.FieldsRead.the-variants.{Is as IsFields, Refused as NoFields}
 use Rattle.fields.specs.declared.virt.VirtRead.{VirtRead}
 use Rattle.fields.specs.declared.virt.VirtRead.the-variants.{Is as IsVirt, Refused as NoVirt}
 use Rattle.fields.specs.declared.virt.VirtsRead.{VirtsRead}
@@ -25,18 +19,6 @@ use Rattle.job.specs.Model.{VirtReg}
 use Rattle.job.specs.Parser.{Parsed, refused, parsed}
 use Rattle.job.specs.Layout.{startsFrom}
 use Rattle.reader.specs.Read.{Stored, hintsOfAll, segmentsOfAll}
-
-abbrev pub segmentView : List ℕ → SegmentRead → Parsed ValueSegment
-segmentView s (IsSegment x at) = parsed x (drop at s)
-segmentView s (NoSegment n) = refused n
-
-abbrev pub hintView : List ℕ → HintRead → Parsed Hint
-hintView s (IsHint x at) = parsed x (drop at s)
-hintView s (NoHint n) = refused n
-
-abbrev pub fieldsView : List ℕ → FieldsRead → Parsed VirtRegFields
-fieldsView s (IsFields f at) = parsed f (drop at s)
-fieldsView s (NoFields n) = refused n
 
 -- a virtual register with these fields, k hints and l segments
 pub record Virt (f : VirtRegFields) (k l : ℕ) (v : VirtReg) : Type 0 where

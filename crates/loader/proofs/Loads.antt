@@ -23,7 +23,8 @@ use Rattle.placing.proofs.Loaded.{In}
 use Rattle.whole_fields.specs.declared.TableSizes.{TableSizes}
 use Rattle.reader.specs.Read.{FixedAt}
 use Rattle.whole_fields.specs.Whole.{SizesOf}
-use Rattle.loader.specs.Loading.{Lent, lent, sizesOf, Sized, testedJob, Stores, reservingAll, later, LoadDone}
+use Rattle.job_stores.specs.Storing.{Stores, reservingAll}
+use Rattle.loader.specs.Loading.{Lent, lent, sizesOf, Sized, testedJob, later, LoadDone}
 use Rattle.loader.specs.declared.load.JobLoaded.the-variants.{Is, Refused}
 use Rattle.loader.proofs.Reserves.{reserved-job}
 use Rattle.loader.proofs.Laying.{room, front-kept, all-later}

@@ -16,7 +16,7 @@ use Rattle.job.proofs.Premises.{Premises}
 use Rattle.entries.specs.Reserving.{Lain, cleared, reserving}
 use Rattle.placing.proofs.Loaded.{put, In, reserved-all}
 use Rattle.reader.specs.Read.{FixedAt, useNumber}
-use Rattle.loader.specs.Loading.{reservingAll}
+use Rattle.job_stores.specs.Storing.{reservingAll}
 use Rattle.job_tests.proofs.Places.{fold-at}
 use Rattle.job_tests.proofs.WholeTests.{noEntry, stored-at}
 

@@ -3,21 +3,19 @@ use Prim.Native.Nat.{ℕ, _≤_}
 use mathlib.Core.Path.{_≡_}
 use mathlib.Core.List.{List, [], _∷_, _++_}
 use mathlib.Core.Bool.{false, not, _||_}
-use lib.ListN.{length, drop, getD}
-use Rattle.lent.specs.Parts.{filled}
-use Rattle.reg_matrix.specs.Lists.{foldl, any, anyPair, count, isNil}
+use lib.ListN.{length, drop}
+use Rattle.reg_matrix.specs.Lists.{any, anyPair, count, isNil}
 use Rattle.reg_matrix.specs.Refusals.{shortBuffer}
 use Rattle.reg_matrix.specs.Table.{freshTable}
 use Rattle.reg_matrix.specs.Layout.{maxEntries, endWords, restWords}
 use Rattle.reg_matrix.specs.declared.Entry.{Entry}
 use Rattle.job.specs.declared.JobHeader.{JobHeader}
-use Rattle.job.specs.Model.{Job, zeroWeight}
+use Rattle.job.specs.Model.{Job}
 use Rattle.job.specs.Parser.{Parser, Parsed, refused, parsed, _>>=_, _>>_, done, refuse, rest}
 use Rattle.job.specs.Load.{jobFields, twin, mixedSet, cutUse, Loaded, notLoaded, loaded, loadWith}
 use Rattle.job.specs.Layout.{JobSlices, slices, jobSlices, listsIn, loadLimits, headerOf}
-use Rattle.entries.specs.Reserving.{Lain, reserving}
 use Rattle.whole_fields.specs.declared.TableSizes.{TableSizes}
-use Rattle.whole_fields.specs.Whole.{JobAt, SizesOf}
+use Rattle.whole_fields.specs.Whole.{SizesOf}
 use Rattle.job_tests.specs.Tests.{equalAt, memberTwice, classesDiffer, crossesAt, wholeNumber}
 use Rattle.loader.specs.declared.load.JobTested.{JobTested}
 use Rattle.loader.specs.declared.load.JobTested.the-variants.{Is as IsTested, Refused as NotTested}
@@ -72,29 +70,6 @@ TestedParts p (IsTested h z) fixed = (j : Job) × (t : List ℕ) × (p ≡ parse
 -- where these tests answer p: the same refusal, or the job's header and sizes, and the fixed reservations are stored
 pub record TestedOut (p : Parsed Job) (r : JobTested) (fixed : List Entry → Type 0) : Type 0 where
   pub parts : TestedParts p r fixed
-
--- ---- the second reading
-
--- zeros where a job is laid out, but for its fixed uses
-abbrev pub cleared : JobSlices → JobSlices
-cleared B =
-    record {
-      j64 = filled 64 0 (B .j64);
-      j32 = filled 1536 0 (B .j32);
-      j16 = filled 2067 0 (B .j16);
-      j8 = filled 2560 0 (B .j8);
-      jf = filled 1536 zeroWeight (B .jf);
-    }
-
--- where the bytes are a job's, its tables are stored over zeros
-pub record Stores (s : List ℕ) (B B′ : JobSlices) : Type 0 where
-  pub stored : (j : Job) (t : List ℕ) → jobFields s ≡ parsed j t → JobAt (cleared B) B′ (λ es. Unit {0}) j
-
--- ---- the fixed reservations
-
--- the first n reservations of the four slices go in, one after another
-unfoldable pub reservingAll : List ℕ → List ℕ → List ℕ → List ℕ → ℕ → Lain → Lain
-reservingAll units froms tos uses n l = foldl (λ l k. reserving (getD units k 0) (getD froms k 0) (getD tos k 0) (getD uses k 0) l) l (count 0 n)
 
 -- ---- loading
 

@@ -5,16 +5,16 @@ ghost use Prim.Native.Nat.{_≤_};
 ghost use lib.ListN.{length};
 ghost use Rattle.job.specs.Layout.{slices};
 ghost use Rattle.reader.specs.Read.{FixedAt};
-ghost use Rattle.loader.specs.Loading.{jobRefusal, testedJob, TestedOut, Stores, lent, Sized, LoadDone};
-use crate::buffers::clear_job;
-use crate::buffers::is_short;
-use crate::reserve::reserve_all;
+ghost use Rattle.loader.specs.Loading.{jobRefusal, testedJob, TestedOut, lent, Sized, LoadDone};
 use job::CLASSES;
 use job::JobHeader;
 use job::SETS;
 use job::TOS;
 use job::USES;
 use job::VALUES;
+use job_stores::buffers::is_short;
+use job_stores::reserve::reserve_all;
+use job_stores::store::store_job;
 use job_tests::tests::whole_refusal;
 use lent::from8;
 use lent::from16;
@@ -109,36 +109,6 @@ fn tested(
             }
         }
     }
-}
-
-// Reads the job again, into the lent numbers, where zeros stand behind each of its lists. The fixed reservations go elsewhere.
-fn store_job(
-    s: &[u8],
-    j64: &mut [u64],
-    j32: &mut [u32],
-    j16: &mut [u16],
-    j8: &mut [u8],
-    jf: &mut [f32],
-)
-    ensures { λ r. ⌜ Stores (now (s .entry)) (slices (now (j64 .entry)) (now (j32 .entry)) (now (j16 .entry)) (now (j8 .entry)) (now (jf .entry))) (slices (now (j64 .exit)) (now (j32 .exit)) (now (j16 .exit)) (now (j8 .exit)) (now (jf .exit))) ⌝ }
-{
-    let mut units = [0u8; 1];
-    let mut starts = [0u32; 1];
-    let mut stops = [0u32; 1];
-    let mut uses = [0u32; 1];
-    clear_job(j64, j32, j16, j8, jf);
-    job_fields(
-        s,
-        j64,
-        j32,
-        j16,
-        j8,
-        jf,
-        &mut units,
-        &mut starts,
-        &mut stops,
-        &mut uses,
-    );
 }
 
 // Loads the job where the sizes lent and its length are tested already: tests its fields in byte order, and the whole, and stores it.

@@ -1,6 +1,6 @@
 use borrow.Author.Needs.{needs}
 use mathlib.Core.Path.{sym, ap, _∙_}
-use Rattle.fields.specs.Virt.{fieldsView}
+use Rattle.virt_reader.specs.Parts.{fieldsView}
 use Rattle.job.specs.Load.{virtRegAt}
 use Rattle.fields.proofs.Turns.{virt-out}
 use Rattle.fields.proofs.virt.virt_reg.Statement.{statement}
