@@ -1,4 +1,4 @@
--- The parts of a loaded job's lists that are a number's own. Laws in context/proofs/Shares.antt tie them to the job. Assumes nothing.
+-- The parts of a loaded job's lists that are a number's own. Laws in moves/proofs/Shares.antt tie them to the job. Assumes nothing.
 use Prim.Native.Nat.{ℕ, _+_}
 use mathlib.Core.List.{List}
 use lib.ListN.{getD}
