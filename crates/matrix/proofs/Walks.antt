@@ -7,12 +7,12 @@ use mathlib.Core.Path.{_≡_, refl, sym, ap, _∙_, subst}
 use mathlib.Core.List.{List, _∷_}
 use mathlib.Core.Bool.{Bool, true, false, cond}
 use lib.Dec.{ltb, leb, eqb}
-use lib.ListN.{length}
+use lib.ListN.{length, getD}
 use lib.Bits.{and-le-r}
 use lib.Count.{trailingZeros}
-use borrow.Author.Tests.{leb-false, ltb-false, eqb-true, eqb-false}
-use Rattle.reg_matrix.specs.Layout.{maxEntries, maxFixed}
-use Rattle.matrix.specs.Walk.{Lent, nextEntry, nextSegment, nextUse, onward, underEntry, entered, meeting, entryStep, useMeeting, useStep, laterUnits, leaveUnit, unitStep, stepOf, left, emit, walk, remaining, answer, firstReport, nextOf, heard, Answered}
+use borrow.Author.Tests.{le-leb, lt-leb, ne-eqb, leb-false, ltb-false, eqb-true, eqb-false}
+use Rattle.reg_matrix.specs.Layout.{maxEntries, maxFixed, entryOf}
+use Rattle.matrix.specs.Walk.{Lent, lent, nextEntry, nextSegment, nextUse, onward, underEntry, entered, meeting, entryStep, useMeeting, useStep, laterUnits, leaveUnit, unitStep, stepOf, left, emit, walk, remaining, answer, firstReport, nextOf, heard, Answered}
 use Rattle.reg_matrix.specs.declared.ValueSegment.{ValueSegment}
 use Rattle.reg_matrix.specs.declared.Entry.{Entry}
 use Rattle.reg_matrix.specs.declared.FixedIndex.the-variants.{At, NoIndex}
@@ -200,3 +200,31 @@ module _ (W : Lent) where
 
   pub next-ends : (c : Cursor) → stepOf W c ≡ Ends → nextOf W c ≡ End
   next-ends c q = next-step c ∙ ap (λ m. answer m (λ d. nextOf W d)) q
+
+-- ---- for one step
+
+module _ (es rs us fs ts vs : List ℕ) (c : Cursor) (m : Move) (z : c .units ≡ 0 → ⊥) where
+  pub step-past-segments : length fs ≤ c .segment → m ≡ leaveUnit es fs c → m ≡ stepOf (lent es rs us fs ts vs) c
+  unfolding stepOf
+  step-past-segments h q = rw (ne-eqb (c .units) 0 z, le-leb (length fs) (c .segment) h) q
+
+  module _ (h : c .segment < length fs) where
+    pub step-past-entries : maxEntries ≤ c .entry → m ≡ leaveUnit es fs c → m ≡ stepOf (lent es rs us fs ts vs) c
+    unfolding stepOf
+    step-past-entries k q = rw (ne-eqb (c .units) 0 z, lt-leb (length fs) (c .segment) h, le-leb maxEntries (c .entry) k) q
+
+    -- by the numbers that were read
+    pub step-inside :
+        (end rest from to value : ℕ) (e : Entry)
+        → c .entry < maxEntries
+        → from ≡ getD fs (c .segment) 0
+        → to ≡ getD ts (c .segment) 0
+        → value ≡ getD vs (c .segment) 0
+        → end ≡ getD es (c .entry) 0
+        → rest ≡ getD rs (c .entry) 0
+        → e ≡ entryOf end rest
+        → m ≡ unitStep (lent es es us fs fs fs) c e (record { from = from; to = to; value = value })
+        → m ≡ stepOf (lent es rs us fs ts vs) c
+    unfolding stepOf unitStep
+    step-inside end rest from to value e k f t v a b x q =
+        rw (ne-eqb (c .units) 0 z, lt-leb (length fs) (c .segment) h, lt-leb maxEntries (c .entry) k, ← f, ← t, ← v, ← a, ← b, ← x) q

@@ -21,8 +21,8 @@ use reg_matrix::Interference;
 use reg_matrix::InterferenceKind;
 use reg_matrix::Reservation;
 use reg_matrix::ValueSegment;
-use table_words::ranges::ranges_refusal;
 use table_words::ranges::short_buffers;
+use table_words::ranges::start_refusal;
 use table_words::search::find;
 use table_words::search::search;
 use table_words::words::entry_of;
@@ -340,7 +340,7 @@ pub fn check_interference(
 ) -> Start
     ensures { λ r. ⌜ r ≡ startOf (checkRefusal (length (now (regs .entry)) ∷ length (now (uses .entry)) ∷ length (now (ends .entry)) ∷ length (now (rests .entry)) ∷ length (now (froms .entry)) ∷ length (now (tos .entry)) ∷ length (now (values .entry)) ∷ []) (take count (now (regs .entry))) reg (segmentsIn (now (froms .entry)) (now (tos .entry)) (now (values .entry)))) (entered (now (ends .entry)) (now (froms .entry)) (getD (now (regs .entry)) reg 0) full) ⌝ }
 {
-    if short_buffers(
+    let short = short_buffers(
         regs.len(),
         uses.len(),
         ends.len(),
@@ -348,19 +348,8 @@ pub fn check_interference(
         froms.len(),
         tos.len(),
         values.len(),
-    ) {
-        return Start::Refused(15);
-    }
-    if regs.len() <= reg {
-        return Start::Refused(8);
-    }
-    if count <= reg {
-        return Start::Refused(8);
-    }
-    if froms.len() == 0 {
-        return Start::Refused(5);
-    }
-    let refusal = ranges_refusal(froms, tos);
+    );
+    let refusal = start_refusal(short, regs.len(), count, reg, froms, tos);
     if refusal != 0 {
         return Start::Refused(refusal);
     }

@@ -3,7 +3,7 @@ ghost use mathlib.Core.Path.{_≡_};
 ghost use mathlib.Core.List.{[], _∷_};
 ghost use Rattle.reg_matrix.specs.Refusals.{rangeRefusal, rangesRefusal, shortBuffer, badSlot};
 ghost use Rattle.reg_matrix.specs.Questions.{checkLimits};
-ghost use Rattle.table_words.specs.Segments.{refusalNumber, segmentsIn};
+ghost use Rattle.table_words.specs.Segments.{refusalNumber, segmentsIn, startRefusal};
 use lent::at32;
 
 // Whether a buffer lent to a check is shorter than its limit: the segments have as many ends and values as starts.
@@ -62,7 +62,7 @@ fn range_refusal(past: u32, from: u32, to: u32) -> u8
 }
 
 // The same of ranges one after another: the first refusal, or 0.
-pub fn ranges_refusal(froms: &[u32], tos: &[u32]) -> u8
+fn ranges_refusal(froms: &[u32], tos: &[u32]) -> u8
     ensures { λ r. ⌜ r ≡ refusalNumber (rangesRefusal 0 (segmentsIn (now (froms .entry)) (now (tos .entry)) [])) ⌝ }
 {
     let mut past = 0;
@@ -77,4 +77,31 @@ pub fn ranges_refusal(froms: &[u32], tos: &[u32]) -> u8
         i += 1;
     }
     0
+}
+
+// 15, 8, 5, 6 or 7 of a check, in this order, or 0: whether a buffer is short, how many maps of units are lent and how many of these count, the
+// register's number, and the segments' starts and ends.
+pub fn start_refusal(
+    short: bool,
+    regs: usize,
+    count: usize,
+    reg: usize,
+    froms: &[u32],
+    tos: &[u32],
+) -> u8
+    ensures { λ r. ⌜ r ≡ refusalNumber (startRefusal short regs count reg (now (froms .entry)) (now (tos .entry))) ⌝ }
+{
+    if short {
+        return 15;
+    }
+    if regs <= reg {
+        return 8;
+    }
+    if count <= reg {
+        return 8;
+    }
+    if froms.len() == 0 {
+        return 5;
+    }
+    ranges_refusal(froms, tos)
 }

@@ -1,7 +1,8 @@
 use borrow.Author.Needs.{needs}
-use borrow.Author.Tests.{le-leb, lt-leb, eq-eqb, ne-eqb}
+use borrow.Author.Tests.{eq-eqb}
 use native.Mathlib.Omega.{arith}
-use Rattle.matrix.specs.Walk.{stepOf, unitStep}
+use Rattle.matrix.specs.Walk.{stepOf}
+use Rattle.matrix.proofs.Walks.{step-past-segments, step-past-entries, step-inside}
 use Rattle.matrix.proofs.Cursor.step.Statement.{statement}
 use Rattle.matrix.proofs.Cursor.step.Tie as tie
 
@@ -13,15 +14,13 @@ leave-unit-requires : tie.Need-leave-unit-requires
 leave-unit-requires c κs = search needs
 
 returns-2 : tie.Need-returns-2
-unfolding stepOf
-returns-2 c = rw (ne-eqb _ _ (c .before .before .if1 .left), le-leb _ _ (c .before .if2 .taken), c .leave-unit .ensures)
+returns-2 c = step-past-segments _ _ _ _ _ _ _ _ (c .before .before .if1 .left) (c .before .if2 .taken) (c .leave-unit .ensures)
 
 leave-unit-requires-2 : tie.Need-leave-unit-requires-2
 leave-unit-requires-2 c κs = search needs
 
 returns-3 : tie.Need-returns-3
-unfolding stepOf
-returns-3 c = rw (ne-eqb _ _ (c .before .before .before .if1 .left), lt-leb _ _ (c .before .before .if2 .left), le-leb _ _ (c .before .if3 .taken), c .leave-unit2 .ensures)
+returns-3 c = step-past-entries _ _ _ _ _ _ _ _ (c .before .before .before .if1 .left) (c .before .before .if2 .left) (c .before .if3 .taken) (c .leave-unit2 .ensures)
 
 at32-requires : tie.Need-at32-requires
 at32-requires c κs = search needs
@@ -45,8 +44,7 @@ unit-step-requires : tie.Need-unit-step-requires
 unit-step-requires c κs = (omega (arith, c .before .before .before .before .before .before .before .before .if1 .left), omega (arith, c .before .before .before .before .before .before .before .if2 .left, c .before .before .before .before .before .before .before .before .before .before .before .before .before .before .before .before .good), omega (arith, c .before .before .before .before .before .before .if3 .left))
 
 returns-4 : tie.Need-returns-4
-unfolding stepOf unitStep
-returns-4 c = rw (ne-eqb _ _ (c .before .before .before .before .before .before .before .before .before .if1 .left), lt-leb _ _ (c .before .before .before .before .before .before .before .before .if2 .left), lt-leb _ _ (c .before .before .before .before .before .before .before .if3 .left), c .unit-step .ensures, c .before .entry-of .ensures, c .before .before .before .at .ensures, c .before .before .at2 .ensures, c .before .before .before .before .before .before .at32 .ensures, c .before .before .before .before .before .at322 .ensures, c .before .before .before .before .at16 .ensures)
+returns-4 c = step-inside _ _ _ _ _ _ _ _ (c .before .before .before .before .before .before .before .before .before .if1 .left) (c .before .before .before .before .before .before .before .before .if2 .left) _ _ _ _ _ _ (c .before .before .before .before .before .before .before .if3 .left) (c .before .before .before .before .before .before .at32 .ensures) (c .before .before .before .before .before .at322 .ensures) (c .before .before .before .before .at16 .ensures) (c .before .before .before .at .ensures) (c .before .before .at2 .ensures) (c .before .entry-of .ensures) (c .unit-step .ensures)
 
 pub step-spec : {M : Type 1} → statement M
 step-spec =
