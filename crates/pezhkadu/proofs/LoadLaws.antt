@@ -1,16 +1,15 @@
 -- Loading a stage whose header and records stand in lent words. Assumes nothing.
 use Prim.Native.Nat.{ℕ}
-use mathlib.Core.Path.{_≡_, refl, sym, ap, _∙_, subst}
+use mathlib.Core.Path.{_≡_, refl, ap, _∙_, subst}
 use mathlib.Core.List.{List, map}
-use mathlib.Core.Bool.{Bool, true, false, not}
-use lib.Dec.{T}
+use mathlib.Core.Bool.{true, false}
 use lib.Seq.{sets}
 use Rattle.job.specs.Load.{Loaded, notLoaded, loaded}
 use Rattle.job.specs.Layout.{JobSlices}
-use Rattle.job.specs.declared.JobHeader.{JobHeader}
-use Rattle.allocator.specs.declared.Assignment.{Assignment}
 use Rattle.allocator.specs.Layout.{StateBuffers}
 use Rattle.allocator.specs.Calls.{load}
+use Rattle.job.specs.declared.JobHeader.{JobHeader}
+use Rattle.allocator.specs.declared.Assignment.{Assignment}
 use Rattle.loader.specs.declared.load.JobLoaded.{JobLoaded}
 use Rattle.loader.specs.declared.load.JobLoaded.the-variants.{Is, Refused}
 use Rattle.calls.specs.Calling.{sizesOf}
@@ -18,48 +17,37 @@ use Rattle.stage_loader.specs.StageLoading.{StageLoadParts, StageLoadDone}
 use Rattle.records.specs.Fields.{firstRecords}
 use Rattle.records.specs.Words.{recordWord}
 use Rattle.words.specs.Words.{wordsShort, headerWords}
-use Rattle.pezhkadu.specs.Loading.{LoadParts, LoadCalled}
+use Rattle.pezhkadu.specs.Loading.{StoredParts, AnswerStored, LoadParts, LoadCalled}
 
-abbrev isIs : JobLoaded → Bool
-isIs (Is h) = true
-isIs (Refused n) = false
+-- ---- what a load answered, stored
 
-abbrev refusedAs : JobLoaded → ℕ
-refusedAs (Is h) = 0
-refusedAs (Refused n) = n
+pub refused-stored : (r : JobLoaded) (head ws : List ℕ) (m n : ℕ) → r ≡ Refused m → n ≡ m → AnswerStored r head ws head ws n
+refused-stored r head ws m n e q = record { parts = rw e (q, refl, refl) }
 
-abbrev headerAs : JobHeader → JobLoaded → JobHeader
-headerAs d (Is h) = h
-headerAs d (Refused n) = d
+pub loaded-stored :
+    (r : JobLoaded) (head ws head′ ws′ : List ℕ) (h : JobHeader) (rs : List Assignment)
+    → r ≡ Is h
+    → head′ ≡ sets head 0 (headerWords h)
+    → rs ≡ firstRecords
+    → ws′ ≡ sets ws 0 (map recordWord rs)
+    → AnswerStored r head ws head′ ws′ 0
+loaded-stored r head ws head′ ws′ h rs e eh er ew =
+    record { parts = rw e (refl, eh, ew ∙ ap (λ (x : List Assignment). sets ws 0 (map recordWord x)) er) }
+
+-- ---- a load of a stage, and what it answered stored
 
 module _ (bytes head ws : List ℕ) (B : JobSlices) (S : StateBuffers) where
   pub load-short : wordsShort head ws ≡ true → LoadCalled bytes head ws B S head ws B S 15
   load-short e = record { parts = rw e (refl, refl, refl, refl, refl) }
 
   module _ (long : wordsShort head ws ≡ false) (B′ : JobSlices) (S′ : StateBuffers) (r : JobLoaded) (d : StageLoadDone bytes B S B′ S′ r) where
-    pub load-refused : (m n : ℕ) → n ≡ m → r ≡ Refused m → LoadCalled bytes head ws B S head ws B′ S′ n
-    load-refused k n q e = record { parts = rw long (go (load (sizesOf B S) bytes) (d .parts)) }
+    pub load-stored : (head′ ws′ : List ℕ) (n : ℕ) → AnswerStored r head ws head′ ws′ n → LoadCalled bytes head ws B S head′ ws′ B′ S′ n
+    load-stored head′ ws′ n a = record { parts = rw long (go (load (sizesOf B S) bytes) (d .parts)) }
       where
-        go : (o : Loaded) → StageLoadParts B S B′ S′ r o → LoadParts head ws B S head ws B′ S′ n o
-        go (notLoaded m) p = (q ∙ ap refusedAs (sym e ∙ p .0), refl, refl, p .1, p .2)
-        go (loaded j) p = absurd (subst (λ (b : Bool). T b) (ap isIs (sym (p .0) ∙ e)) tt)
-
-    pub load-done :
-        (h : JobHeader)
-        → r ≡ Is h
-        → (head′ ws′ : List ℕ) (rs : List Assignment)
-        → head′ ≡ sets head 0 (headerWords h)
-        → rs ≡ firstRecords
-        → ws′ ≡ sets ws 0 (map recordWord rs)
-        → LoadCalled bytes head ws B S head′ ws′ B′ S′ 0
-    load-done h e head′ ws′ rs eh er ew = record { parts = rw long (go (load (sizesOf B S) bytes) (d .parts)) }
-      where
-        go : (o : Loaded) → StageLoadParts B S B′ S′ r o → LoadParts head ws B S head′ ws′ B′ S′ 0 o
-        go (notLoaded m) p = absurd (subst (λ (b : Bool). T (not b)) (ap isIs (sym (p .0) ∙ e)) tt)
-        go (loaded j) p = (
-          refl,
-          eh ∙ ap (λ (x : JobHeader). sets head 0 (headerWords x)) (ap (headerAs h) (sym e ∙ p .0)),
-          ew ∙ ap (λ (x : List Assignment). sets ws 0 (map recordWord x)) er,
-          p .1,
-          p .2,
-        )
+        go : (o : Loaded) → StageLoadParts B S B′ S′ r o → LoadParts head ws B S head′ ws′ B′ S′ n o
+        go (notLoaded m) p =
+            let q = subst (λ (x : JobLoaded). StoredParts x head ws head′ ws′ n) (p .0) (a .parts) in
+            (q .0, q .1, q .2, p .1, p .2)
+        go (loaded j) p =
+            let q = subst (λ (x : JobLoaded). StoredParts x head ws head′ ws′ n) (p .0) (a .parts) in
+            (q .0, q .1, q .2, p .1, p .2)

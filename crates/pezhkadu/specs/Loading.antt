@@ -17,6 +17,16 @@ use Rattle.stage_loader.specs.StageLoading.{laterState, laterJob}
 use Rattle.records.specs.Fields.{firstRecords}
 use Rattle.records.specs.Words.{recordWord, recordsIn}
 use Rattle.words.specs.Words.{headerWords, headerIn, wordsShort}
+use Rattle.loader.specs.declared.load.JobLoaded.{JobLoaded}
+use Rattle.loader.specs.declared.load.JobLoaded.the-variants.{Is, Refused}
+
+abbrev pub StoredParts : JobLoaded → List ℕ → List ℕ → List ℕ → List ℕ → ℕ → Type 0
+StoredParts (Refused m) head ws head′ ws′ n = (n ≡ m) × (head′ ≡ head) × (ws′ ≡ ws)
+StoredParts (Is h) head ws head′ ws′ n = (n ≡ 0) × (head′ ≡ sets head 0 (headerWords h)) × (ws′ ≡ sets ws 0 (map recordWord firstRecords))
+
+-- what a load answered, as a number and in words: a refusal stores nothing
+pub record AnswerStored (r : JobLoaded) (head ws head′ ws′ : List ℕ) (n : ℕ) : Type 0 where
+  pub parts : StoredParts r head ws head′ ws′ n
 
 -- a refusal leaves all as it was; else the header, the first records, the job and the fresh state stand there, and the tail of every longer slice
 abbrev pub LoadParts : List ℕ → List ℕ → JobSlices → StateBuffers → List ℕ → List ℕ → JobSlices → StateBuffers → ℕ → Loaded → Type 0

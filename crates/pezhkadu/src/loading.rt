@@ -1,7 +1,7 @@
 // Loading a stage whose header and records stand in lent words.
 ghost use Rattle.job.specs.Layout.{slices};
 ghost use Rattle.run_loop.specs.Running.{lentState};
-ghost use Rattle.pezhkadu.specs.Loading.{LoadCalled};
+ghost use Rattle.pezhkadu.specs.Loading.{AnswerStored, LoadCalled};
 use loader::load::JobLoaded;
 use records::first_records;
 use records::words::store;
@@ -9,6 +9,20 @@ use stage_loader::load;
 use words::header::short_words;
 use words::header::store_header;
 use words::numbers::wide;
+
+// Stores what a load answered: the header and the records as they start out. A refusal stores nothing. The answer is 0 or the refusal's number.
+fn store_answer(loaded: JobLoaded, header: &mut [u64], records: &mut [u64]) -> u64
+    ensures { λ r. ⌜ AnswerStored loaded (now (header .entry)) (now (records .entry)) (now (header .exit)) (now (records .exit)) r ⌝ }
+{
+    match loaded {
+        JobLoaded::Refused(n) => wide(n),
+        JobLoaded::Is(found) => {
+            store_header(found, header);
+            store(first_records(), records);
+            0
+        }
+    }
+}
 
 // Loads the job of these bytes: its header and the records as they start out into words, the job, the table, the queue and the last registers into
 // the other slices. The answer is 0, or the number of the refusal, and then nothing is changed: 15 where a slice is short, then the job's length (4),
@@ -33,12 +47,6 @@ pub extern "C" fn pezhkadu_load(
     if short_words(header, records) {
         return 15;
     }
-    match load(bytes, j64, j32, j16, j8, jf, ends, rests, queue, last) {
-        JobLoaded::Refused(n) => wide(n),
-        JobLoaded::Is(loaded) => {
-            store_header(loaded, header);
-            store(first_records(), records);
-            0
-        }
-    }
+    let loaded = load(bytes, j64, j32, j16, j8, jf, ends, rests, queue, last);
+    store_answer(loaded, header, records)
 }
