@@ -1,4 +1,2 @@
-// What a script reads and prints on its way: bytes and numbers, lines, and questions with their answers.
-pub mod input;
-pub mod output;
+// What a script asks on its way: questions, read with what they need and printed with their answers.
 pub mod questions;

@@ -3,12 +3,12 @@ ghost use Prim.Native.Nat.{_≤_};
 use crate::make_calls;
 use lent::part8;
 use loader::load::JobLoaded;
-use script_io::input::least;
-use script_io::input::less;
-use script_io::input::read_number;
-use script_io::input::read_some;
-use script_io::input::skip;
-use script_io::output::print;
+use script_bytes::input::least;
+use script_bytes::input::less;
+use script_bytes::input::read_number;
+use script_bytes::input::read_some;
+use script_bytes::input::skip;
+use script_bytes::output::print;
 use stage_loader::load;
 use transcript::answers;
 

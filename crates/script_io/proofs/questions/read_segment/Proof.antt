@@ -1,7 +1,7 @@
 use borrow.Author.Needs.{needs}
 use native.Mathlib.Omega.{arith}
 use borrow.Author.Tests.{not-true, not-false}
-use Rattle.script_io.proofs.ReadLaws.{all-took, less-took}
+use Rattle.script_bytes.proofs.ReadLaws.{all-took, less-took}
 use Rattle.script_io.proofs.questions.read_segment.Statement.{statement}
 use Rattle.script_io.proofs.questions.read_segment.Tie as tie
 

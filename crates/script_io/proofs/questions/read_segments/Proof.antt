@@ -3,8 +3,8 @@ use borrow.Author.Needs.{needs}
 use Prim.Native.Nat.{_-_, _+_, _*_, _≤_}
 use native.Mathlib.Omega.{arith}
 use mathlib.Core.Path.{_≡_, ap}
-use Rattle.script_io.specs.Reading.{isWhole}
-use Rattle.script_io.proofs.ReadLaws.{all-took, less-took}
+use Rattle.script_io.specs.Segments.{isWhole}
+use Rattle.script_bytes.proofs.ReadLaws.{all-took, less-took}
 use Rattle.script_io.proofs.questions.read_segments.Statement.{statement}
 use Rattle.script_io.proofs.questions.read_segments.Tie as tie
 

@@ -1,7 +1,7 @@
 // Reading standard input in pieces.
 ghost use mathlib.Core.Path.{_≡_};
 ghost use Prim.Native.Nat.{_+_, _-_, _*_, _≤_, _<_, min};
-ghost use Rattle.script_io.specs.Reading.{SomeRead, Took, NumberRead};
+ghost use Rattle.script_bytes.specs.Reading.{SomeRead, Took, NumberRead};
 
 // The smaller of two numbers.
 pub fn least(a: u64, b: u64) -> u64

@@ -1,7 +1,7 @@
 use borrow.Author.Needs.{needs}
-use Rattle.script_io.proofs.ReadLaws.{number-read}
-use Rattle.script_io.proofs.input.read_number.Statement.{statement}
-use Rattle.script_io.proofs.input.read_number.Tie as tie
+use Rattle.script_bytes.proofs.ReadLaws.{number-read}
+use Rattle.script_bytes.proofs.input.read_number.Statement.{statement}
+use Rattle.script_bytes.proofs.input.read_number.Tie as tie
 
 slice-aggregate-read-some : tie.Need-slice-aggregate-read-some
 slice-aggregate-read-some c = search needs

@@ -1,8 +1,8 @@
 use borrow.Author.Needs.{needs}
 use mathlib.Core.Path.{ap}
 use lib.ListN.{length}
-use Rattle.script_io.proofs.output.print.Statement.{statement}
-use Rattle.script_io.proofs.output.print.Tie as tie
+use Rattle.script_bytes.proofs.output.print.Statement.{statement}
+use Rattle.script_bytes.proofs.output.print.Tie as tie
 
 part8-requires : tie.Need-part8-requires
 part8-requires c κs = search needs

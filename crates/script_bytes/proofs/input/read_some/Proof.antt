@@ -2,9 +2,9 @@ use borrow.Author.Needs.{needs}
 use native.Mathlib.Omega.{arith}
 use mathlib.Core.Path.{sym}
 use lib.Seq.{length-take-le}
-use Rattle.script_io.proofs.ReadLaws.{some-read}
-use Rattle.script_io.proofs.input.read_some.Statement.{statement}
-use Rattle.script_io.proofs.input.read_some.Tie as tie
+use Rattle.script_bytes.proofs.ReadLaws.{some-read}
+use Rattle.script_bytes.proofs.input.read_some.Statement.{statement}
+use Rattle.script_bytes.proofs.input.read_some.Tie as tie
 
 least-requires : tie.Need-least-requires
 least-requires c κs = search needs

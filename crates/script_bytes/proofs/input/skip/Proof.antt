@@ -2,9 +2,9 @@ use borrow.Author.Needs.{needs}
 use Prim.Native.Nat.{_+_, _≤_}
 use native.Mathlib.Omega.{arith}
 use mathlib.Core.Path.{_≡_}
-use Rattle.script_io.proofs.ReadLaws.{all-took, less-took}
-use Rattle.script_io.proofs.input.skip.Statement.{statement}
-use Rattle.script_io.proofs.input.skip.Tie as tie
+use Rattle.script_bytes.proofs.ReadLaws.{all-took, less-took}
+use Rattle.script_bytes.proofs.input.skip.Statement.{statement}
+use Rattle.script_bytes.proofs.input.skip.Tie as tie
 
 abbrev Inv-loop : tie.InvT-loop
 Inv-loop left₀ n more₀ left more = (more ≤ n) × (left + n ≡ left₀ + more)

@@ -5,8 +5,6 @@ use mathlib.Core.Path.{_≡_}
 use mathlib.Core.List.{List}
 use mathlib.Core.Bool.{Bool, true, false}
 use lib.ListN.{length, drop}
-use Rattle.script_io.specs.declared.questions.SegmentRead.{SegmentRead}
-use Rattle.script_io.specs.declared.questions.SegmentRead.the-variants.{Is, Cut}
 
 -- at most n bytes were asked for, and r came into the front of a buffer: the script, which had at least as many, has r fewer; and the buffer is as it
 -- was behind the first n
@@ -26,8 +24,3 @@ pub record Took (n left left′ : ℕ) (all : Bool) : Type 0 where
 pub record NumberRead (n left left′ x : ℕ) (all : Bool) : Type 0 where
   pub took : Took n left left′ all
   pub fits : x < 256 ^ n
-
--- a segment was all there
-abbrev pub isWhole : SegmentRead → Bool
-isWhole (Is s) = true
-isWhole Cut = false

@@ -9,7 +9,7 @@ use lib.Dec.{T, eqb}
 use borrow.Author.Tests.{eqb-true, eqb-false}
 use lib.ListN.{length, take, drop, getD}
 use lib.Seq.{length-take-le, drop-append-add, drop-drop, getD-drop}
-use Rattle.script_io.specs.Reading.{SomeRead, Took, NumberRead}
+use Rattle.script_bytes.specs.Reading.{SomeRead, Took, NumberRead}
 
 -- a buffer whose first k bytes are others is as it was behind the first n
 behind-front : (front buf : List ℕ) (k n : ℕ) → length front ≡ k → k ≤ n → drop n (front ++ drop k buf) ≡ drop n buf
