@@ -17,7 +17,7 @@ use Rattle.reg_matrix.specs.Check.{check}
 use Rattle.reg_matrix.specs.declared.ValueSegment.{ValueSegment}
 use Rattle.reg_matrix.proofs.Places.{padded-read}
 use Rattle.entries.specs.Moves.{words}
-use Rattle.entries.specs.Placing.{freeAt, range, spareAnswer}
+use Rattle.unit_free.specs.Spare.{freeAt, range, spareAnswer}
 use Rattle.table_words.specs.Segments.{segmentsIn}
 use Rattle.matrix.specs.Walk.{Lent, entered, remaining, startOf}
 use Rattle.job.specs.Model.{Job, unitMap}

@@ -7,8 +7,8 @@ use Rattle.reg_matrix.specs.Questions.{Checked, notChecked, checked, Spared, no
 use Rattle.matrix.specs.Walk.{Lent, remaining}
 use Rattle.matrix.specs.declared.Start.{Start}
 use Rattle.matrix.specs.declared.Start.the-variants.{Checking, Refused}
-use Rattle.entries.specs.declared.UnitFree.{UnitFree}
-use Rattle.entries.specs.declared.UnitFree.the-variants.{Free, Taken, NotAsked}
+use Rattle.unit_free.specs.declared.UnitFree.{UnitFree}
+use Rattle.unit_free.specs.declared.UnitFree.the-variants.{Free, Taken, NotAsked}
 
 -- the answer of a check over W: its refusal's number, or what the walk reports from its start
 abbrev pub checkedOf : Lent → Start → Checked

@@ -1,10 +1,10 @@
--- Placing, evicting and the spare question on lent numbers, in the shape of the code: `uses` are the numbers of the fixed uses, u a unit, v a virtual register.
+-- Placing and evicting on lent numbers, in the shape of the code: `uses` are the numbers of the fixed uses, u a unit, v a virtual register.
 -- The laws in proofs/ tie these to Assign.antt. Assumes nothing.
 use Prim.Native.Nat.{ℕ, zero, suc, _+_, _-_, _*_, _/_, _%_, _^_}
 use mathlib.Core.Path.{_≡_}
 use mathlib.Core.List.{List, [], _∷_}
 use mathlib.Core.Option.{Option, none, some}
-use mathlib.Core.Bool.{Bool, true, false, not, cond, _&&_}
+use mathlib.Core.Bool.{Bool, cond, _&&_}
 use lib.Dec.{ltb, leb, eqb}
 use lib.ListN.{length, drop, getD}
 use Rattle.reg_matrix.specs.Lists.{foldl}
@@ -12,11 +12,8 @@ use Rattle.reg_matrix.specs.Table.{unitsOf}
 use Rattle.reg_matrix.specs.Refusals.{refusal, _if_, shortBuffer}
 use Rattle.reg_matrix.specs.Layout.{maxEntries, maxFixed}
 use Rattle.table_words.specs.Search.{placeOf}
-use Rattle.reg_matrix.specs.declared.ValueSegment.{ValueSegment}
 use Rattle.entries.specs.declared.Moved.{Moved}
 use Rattle.entries.specs.declared.Moved.the-variants.{Done, Refused}
-use Rattle.entries.specs.declared.UnitFree.{UnitFree}
-use Rattle.entries.specs.declared.UnitFree.the-variants.{Free, Taken, NotAsked}
 use Rattle.entries.specs.Moves.{Words, inserting, removing, removingRun}
 
 -- the fixed uses of lower units have lower numbers, and so have the unit's that start before p
@@ -116,19 +113,3 @@ pub record Assigned (v m : ℕ) (uses froms tos : List ℕ) (w w′ : Words) (r 
 pub record Evicted (v m : ℕ) (uses tos : List ℕ) (w w′ : Words) (r : Moved) : Type 0 where
   pub answer : r ≡ moved (moveRefusal (sizes w uses tos) (length tos) v)
   pub after : w′ ≡ unlessRefused (moveRefusal (sizes w uses tos) (length tos) v) (evicting uses v m tos w) w
-
--- ---- spare
-
--- the first entry of the unit that ends past `from`, if there is one, starts past `to`
-unfoldable pub freeAt : ℕ → ℕ → ℕ → Words → Bool
-freeAt u from to w =
-    let place = placeOf maxEntries (w .ends) (u * 2 ^ 32 + from + 1) in
-    not (ltb place maxEntries && (eqb (getD (w .ends) place 0 / 2 ^ 32) u && leb (getD (w .rests) place 0 / 2 ^ 32) to))
-
-abbrev pub range : ℕ → ℕ → ValueSegment
-range from to = record { from = from; to = to; value = 0 }
-
-abbrev pub spareAnswer : Option ℕ → Bool → UnitFree
-spareAnswer (some n) b = NotAsked n
-spareAnswer none true = Free
-spareAnswer none false = Taken

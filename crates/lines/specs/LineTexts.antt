@@ -7,9 +7,9 @@ use Rattle.reg_matrix.specs.Lists.{ascii, concatMap, filter, any, bit, count}
 use Rattle.reg_matrix.specs.Lines.{number, sp, line}
 use Rattle.reg_matrix.specs.Questions.{spareRefusal}
 use Rattle.entries.specs.Moves.{words}
-use Rattle.entries.specs.Placing.{freeAt, range, spareAnswer}
-use Rattle.entries.specs.declared.UnitFree.{UnitFree}
-use Rattle.entries.specs.declared.UnitFree.the-variants.{Free, Taken, NotAsked}
+use Rattle.unit_free.specs.Spare.{freeAt, range, spareAnswer}
+use Rattle.unit_free.specs.declared.UnitFree.{UnitFree}
+use Rattle.unit_free.specs.declared.UnitFree.the-variants.{Free, Taken, NotAsked}
 use Rattle.allocator.specs.declared.Assignment.{Assignment}
 use Rattle.allocator.specs.Sheet.{standing}
 

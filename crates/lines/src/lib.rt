@@ -11,14 +11,14 @@ ghost use Rattle.lines.specs.Texts.{Appended};
 ghost use Rattle.lines.specs.LineTexts.{lent, standingText, isRegisterUnit, isFree, isSpare, spareText};
 use allocator::Assignment;
 use allocator::Ending;
-use entries::UnitFree;
-use entries::unit_free::is_unit_free;
 use lent::at;
 use lent::at8;
 use lent::put8;
 use reg_matrix::Entry;
 use reg_matrix::FixedIndex;
 use reg_matrix::Reservation;
+use unit_free::UnitFree;
+use unit_free::is_unit_free;
 
 // Stores a text from place `at` on, and gives the place after it.
 fn text(line: &mut [u8], at: usize, bytes: &[u8]) -> usize

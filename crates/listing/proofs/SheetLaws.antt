@@ -22,7 +22,7 @@ use Rattle.reg_matrix.specs.declared.Entry.{Entry}
 use Rattle.reg_matrix.proofs.Members.{_∈_}
 use Rattle.reg_matrix.proofs.Places.{padded-length, from-zero}
 use Rattle.entries.specs.Moves.{words}
-use Rattle.entries.specs.Placing.{freeAt, range, spareAnswer}
+use Rattle.unit_free.specs.Spare.{freeAt, range, spareAnswer}
 use Rattle.placing.proofs.Asked.{filled-at}
 use Rattle.table_words.proofs.Decode.{entry-back}
 use Rattle.placing.proofs.Evicted.{word-at}

@@ -17,7 +17,7 @@ use Rattle.reg_matrix.specs.Questions.{startsPast, isUnitFree}
 use Rattle.reg_matrix.specs.Layout.{maxEntries, greatest, endWord, restWord, reservationWord, endWords, restWords}
 use Rattle.table_words.specs.Search.{placeOf, below}
 use Rattle.entries.specs.Moves.{Words}
-use Rattle.entries.specs.Placing.{freeAt, range}
+use Rattle.unit_free.specs.Spare.{freeAt, range}
 use Rattle.reg_matrix.specs.declared.Entry.{Entry}
 use Rattle.reg_matrix.proofs.Members.{_∈_, filter-none}
 use Rattle.reg_matrix.proofs.Sorted.{Sorted}

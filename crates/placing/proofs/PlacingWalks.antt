@@ -1,8 +1,8 @@
--- One step of each walk of specs/Placing.antt, and of the units of a map from its lowest bit. Assumes nothing.
-use Prim.Native.Nat.{ℕ, suc, _+_, _-_, _^_, _≤_, _<_}
+-- One step of the walks over segments and of the units of a map from its lowest bit. Assumes nothing.
+use Prim.Native.Nat.{ℕ, _+_, _-_, _%_, _^_, _≤_, _<_}
 use native.Mathlib.Numerals.{add-one}
 use native.Mathlib.Omega.{arith}
-use mathlib.Core.Path.{_≡_, refl, ap, _∙_}
+use mathlib.Core.Path.{_≡_, ap, _∙_}
 use mathlib.Core.List.{List}
 use lib.Count.{trailingZeros}
 use lib.ListN.{length, drop, getD, drop-of-length-le}
@@ -10,35 +10,27 @@ use lib.Seq.{drop-cons, drop-drop, getD-drop}
 use Rattle.reg_matrix.specs.Lists.{foldl}
 use Rattle.reg_matrix.specs.Table.{unitsOf}
 use Rattle.entries.specs.Moves.{Words}
-use Rattle.entries.specs.Placing.{assigningSegment, assigningUnit, insertingUse, insertingUses}
+use Rattle.entries.specs.Placing.{assigningSegment, assigningUnit}
 use Rattle.matrix.proofs.UnitMaps.{first-unit, no-units}
 
 -- ---- segments
 
 module _ (uses : List ℕ) (v u : ℕ) (froms tos : List ℕ) (i : ℕ) (w w′ : Words) where
   pub unit-more :
-      i < length froms
-      → w′ ≡ assigningSegment uses v u w (getD froms i 0) (getD tos i 0)
+      v < 512
+      → i < length froms
+      → w′ ≡ assigningSegment uses (v % 512) u w (getD froms i 0) (getD tos i 0)
       → assigningUnit uses v u (drop (i + 1) froms) (drop (i + 1) tos) w′ ≡ assigningUnit uses v u (drop i froms) (drop i tos) w
   unfolding assigningUnit
-  unit-more h q =
+  unit-more l h q =
       let z : i + 0 ≡ i = omega arith in
       let e : getD (drop i tos) 0 0 ≡ getD tos i 0 = getD-drop i tos 0 0 ∙ ap (λ (j : ℕ). getD tos j 0) z in
-      rw (q, ← e, ← drop-drop 1 i tos, add-one i, drop-cons froms i 0 h)
+      let s : v % 512 ≡ v = omega arith in
+      rw (q, s, ← e, ← drop-drop 1 i tos, add-one i, drop-cons froms i 0 h)
 
   pub unit-end : length froms ≤ i → assigningUnit uses v u (drop i froms) (drop i tos) w ≡ w
   unfolding assigningUnit
   unit-end h = rw (drop-of-length-le froms h)
-
--- ---- fixed uses that go in
-
-pub uses-more : (j last : ℕ) (uses : List ℕ) (w w′ : Words) → j < last → w′ ≡ insertingUse (getD uses j 0) w → insertingUses (last - (j + 1)) (j + 1) uses w′ ≡ insertingUses (last - j) j uses w
-unfolding insertingUses
-uses-more j last uses w w′ h q = let e : last - j ≡ suc (last - (j + 1)) = omega arith in rw (q, e)
-
-pub uses-end : (j last : ℕ) (uses : List ℕ) (w : Words) → last ≤ j → insertingUses (last - j) j uses w ≡ w
-unfolding insertingUses
-uses-end j last uses w h = let e : last - j ≡ 0 = omega arith in rw e refl
 
 -- ---- the units of a map
 

@@ -1,78 +1,16 @@
 // Placing and evicting a virtual register in the table's lent numbers: every segment on every unit of a register.
 ghost use mathlib.Core.Path.{_≡_};
-ghost use Prim.Native.Nat.{_-_, _<_, _≤_, _^_};
+ghost use Prim.Native.Nat.{_-_, _<_, _^_};
 ghost use lib.Count.{trailingZeros};
 ghost use Rattle.entries.specs.Moves.{words};
-ghost use Rattle.entries.specs.Placing.{usesBefore, indexPart, assigningSegment, assigningUnit, assigning};
-ghost use Rattle.entries.specs.Placing.{isOwn, insertingUses, firstUnder, evictingSegment, evictingUnit, evicting};
+ghost use Rattle.entries.specs.Placing.{assigningUnit, assigning, evictingUnit, evicting};
 ghost use mathlib.Core.List.{[], _∷_};
 ghost use Rattle.reg_matrix.specs.Refusals.{shortBuffer};
 ghost use Rattle.entries.specs.Placing.{moveLimits, Assigned, Evicted};
 use entries::Moved;
-use entries::table::insert;
-use entries::table::insert_use;
-use entries::table::remove;
-use entries::table::remove_run;
-use lent::at;
 use lent::at32;
-use table_words::search::find;
-use table_words::search::search;
-
-// a - b, or 0 where b is greater.
-fn minus(a: usize, b: usize) -> usize
-    ensures { λ r. ⌜ r ≡ a - b ⌝ }
-{
-    if b < a { a - b } else { 0 }
-}
-
-// The place of the unit's first fixed use that does not start before p, among the unit's.
-fn uses_before(uses: &[u64], unit: u32, p: u32) -> usize
-    requires { ⌜ unit ≤ 64 ⌝ }
-    ensures { λ r. ⌜ r ≡ usesBefore (now (uses .entry)) unit p ⌝ }
-    ensures { λ r. ⌜ r ≤ 512 ⌝ }
-{
-    let base = unit as u64 * 0x1_0000_0000_0000;
-    let past = search(uses, 512, base + p as u64 * 0x1_0000);
-    let first = search(uses, 512, base);
-    minus(past, first)
-}
-
-// An entry's index, as it stands in the entry's number: 0 if nothing stands from lo to hi.
-fn index_part(uses: &[u64], unit: u32, p: u32, lo: usize, hi: usize) -> u64
-    requires { ⌜ unit ≤ 64 ⌝ }
-    ensures { λ r. ⌜ r ≡ indexPart (now (uses .entry)) unit p lo hi ⌝ }
-    ensures { λ r. ⌜ r ≤ 513 ⌝ }
-{
-    if lo < hi {
-        uses_before(uses, unit, p) as u64 + 1
-    } else {
-        0
-    }
-}
-
-// One segment on one unit: the entries that end inside it, fixed uses all, give way to an entry of v.
-fn assign_segment(
-    ends: &mut [u64],
-    rests: &mut [u64],
-    uses: &[u64],
-    v: u16,
-    unit: u32,
-    from: u32,
-    to: u32,
-)
-    requires { ⌜ (v < 512) × (unit ≤ 64) ⌝ }
-    ensures { λ r. ⌜ words (now (ends .exit)) (now (rests .exit)) ≡ assigningSegment (now (uses .entry)) v unit (words (now (ends .entry)) (now (rests .entry))) from to ⌝ }
-{
-    let base = unit as u64 * 0x1_0000_0000;
-    let end = base + to as u64;
-    let lo = find(ends, base + from as u64 + 1);
-    let hi = find(ends, end + 1);
-    let index = index_part(uses, unit, from, lo, hi);
-    let rest = from as u64 * 0x1_0000_0000 + (v as u64 + 2) * 0x1_0000 + index;
-    let run = minus(hi, lo);
-    remove_run(ends, rests, lo, run);
-    insert(ends, rests, end, rest);
-}
+use segment_moves::assign_segment;
+use segment_moves::evict_segment;
 
 // All segments on one unit.
 fn assign_unit(
@@ -80,11 +18,11 @@ fn assign_unit(
     rests: &mut [u64],
     uses: &[u64],
     v: u16,
-    unit: u32,
+    unit: u8,
     froms: &[u32],
     tos: &[u32],
 )
-    requires { ⌜ (v < 512) × (unit ≤ 64) ⌝ }
+    requires { ⌜ v < 512 ⌝ }
     ensures { λ r. ⌜ words (now (ends .exit)) (now (rests .exit)) ≡ assigningUnit (now (uses .entry)) v unit (now (froms .entry)) (now (tos .entry)) (words (now (ends .entry)) (now (rests .entry))) ⌝ }
 {
     let mut i = 0;
@@ -120,70 +58,14 @@ fn assign_units(
 {
     let mut left = map;
     while 0 < left {
-        let unit = u64::trailing_zeros(left);
+        let unit = u64::trailing_zeros(left) as u8;
         assign_unit(ends, rests, uses, v, unit, froms, tos);
         left = without_lowest(left);
     }
 }
 
-// Whether the entry at `place` ends at `end` and is v's.
-fn is_own(ends: &[u64], rests: &[u64], v: u16, end: u64, place: usize) -> bool
-    ensures { λ r. ⌜ r ≡ isOwn v end place (words (now (ends .entry)) (now (rests .entry))) ⌝ }
-{
-    if place < 2560 {
-        if at(ends, place) == end {
-            return at(rests, place) % 0x1_0000_0000 / 0x1_0000 == v as u64 + 2;
-        }
-    }
-    false
-}
-
-// Puts the fixed uses number `first` to `last` back.
-fn insert_uses(ends: &mut [u64], rests: &mut [u64], uses: &[u64], first: usize, last: usize)
-    ensures { λ r. ⌜ words (now (ends .exit)) (now (rests .exit)) ≡ insertingUses (last - first) first (now (uses .entry)) (words (now (ends .entry)) (now (rests .entry))) ⌝ }
-{
-    let mut j = first;
-    while j < last {
-        let x = at(uses, j);
-        insert_use(ends, rests, x);
-        j += 1;
-    }
-}
-
-// The number of the first fixed use under an entry of the unit that has this index part; `last` if there is none.
-fn first_under(uses: &[u64], unit: u32, index: u64, last: usize) -> usize
-    requires { ⌜ (unit ≤ 64) × (index < 65536) ⌝ }
-    ensures { λ r. ⌜ r ≡ firstUnder (now (uses .entry)) unit index last ⌝ }
-{
-    if index == 0 {
-        return last;
-    }
-    search(uses, 512, unit as u64 * 0x1_0000_0000_0000) + (index as usize - 1)
-}
-
-// One segment on one unit: the entry of v goes, and the fixed uses that it replaced come back.
-fn evict_segment(ends: &mut [u64], rests: &mut [u64], uses: &[u64], v: u16, unit: u32, to: u32)
-    requires { ⌜ unit ≤ 64 ⌝ }
-    ensures { λ r. ⌜ words (now (ends .exit)) (now (rests .exit)) ≡ evictingSegment (now (uses .entry)) v unit (words (now (ends .entry)) (now (rests .entry))) to ⌝ }
-{
-    let end = unit as u64 * 0x1_0000_0000 + to as u64;
-    let place = find(ends, end);
-    if is_own(ends, rests, v, end, place) {
-        let last = search(
-            uses,
-            512,
-            unit as u64 * 0x1_0000_0000_0000 + to as u64 * 0x1_0000,
-        );
-        let index = at(rests, place) % 0x1_0000;
-        let first = first_under(uses, unit, index, last);
-        remove(ends, rests, place);
-        insert_uses(ends, rests, uses, first, last);
-    }
-}
-
 // All segments on one unit.
-fn evict_unit(ends: &mut [u64], rests: &mut [u64], uses: &[u64], v: u16, unit: u32, tos: &[u32])
-    requires { ⌜ unit ≤ 64 ⌝ }
+fn evict_unit(ends: &mut [u64], rests: &mut [u64], uses: &[u64], v: u16, unit: u8, tos: &[u32])
     ensures { λ r. ⌜ words (now (ends .exit)) (now (rests .exit)) ≡ evictingUnit (now (uses .entry)) v unit (now (tos .entry)) (words (now (ends .entry)) (now (rests .entry))) ⌝ }
 {
     let mut i = 0;
@@ -200,7 +82,7 @@ fn evict_units(ends: &mut [u64], rests: &mut [u64], uses: &[u64], v: u16, map: u
 {
     let mut left = map;
     while 0 < left {
-        let unit = u64::trailing_zeros(left);
+        let unit = u64::trailing_zeros(left) as u8;
         evict_unit(ends, rests, uses, v, unit, tos);
         left = without_lowest(left);
     }

@@ -6,12 +6,10 @@ ghost use Prim.Native.Nat.{_*_, _≤_};
 ghost use lib.ListN.{length};
 ghost use Rattle.reg_matrix.specs.Questions.{spareRefusal};
 ghost use Rattle.entries.specs.Moves.{words};
-ghost use Rattle.entries.specs.Placing.{freeAt, range, spareAnswer};
+ghost use Rattle.unit_free.specs.Spare.{freeAt, range, spareAnswer};
 ghost use Rattle.narrow.specs.Cut.{cut};
 ghost use Rattle.script_bytes.specs.Reading.{Took};
 ghost use Rattle.script_io.specs.Segments.{isWhole};
-use entries::UnitFree;
-use entries::unit_free::is_unit_free;
 use matrix::Cursor;
 use matrix::Start;
 use matrix::Step;
@@ -24,6 +22,8 @@ use script_bytes::output::print;
 use segment_lists::check_list;
 use segment_lists::next_in_list;
 use transcript::answers;
+use unit_free::UnitFree;
+use unit_free::is_unit_free;
 
 // One segment that was read, or that the script ended inside it.
 enum SegmentRead {

@@ -15,7 +15,8 @@ use Rattle.reg_matrix.proofs.Cells.{Cell}
 use Rattle.reg_matrix.proofs.Whole.{cells}
 use Rattle.reg_matrix.proofs.Laws.{Matrix}
 use Rattle.entries.specs.Moves.{Words, words}
-use Rattle.entries.specs.Placing.{Assigned, Evicted, freeAt, range}
+use Rattle.entries.specs.Placing.{Assigned, Evicted}
+use Rattle.unit_free.specs.Spare.{freeAt, range}
 use Rattle.entries.specs.declared.Moved.{Moved}
 use Rattle.table_words.proofs.Decode.{fits-word}
 use Rattle.placing.proofs.Standing.{Stands}

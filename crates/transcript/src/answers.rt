@@ -7,9 +7,9 @@ use crate::texts::byte;
 use crate::texts::number;
 use crate::texts::spaced;
 use crate::texts::text;
-use entries::UnitFree;
 use reg_matrix::Interference;
 use reg_matrix::InterferenceKind;
+use unit_free::UnitFree;
 
 // `refused N`.
 pub fn refused_line(line: &mut [u8], n: u64) -> usize

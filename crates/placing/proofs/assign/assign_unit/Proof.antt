@@ -34,7 +34,7 @@ loop-less : tie.Need-loop-less Inv-loop μ-loop
 loop-less c = search needs
 
 loop-again : tie.Need-loop-again Inv-loop μ-loop
-loop-again c = (search needs, search needs, unit-more _ _ _ _ _ _ _ _ (c .before .before .before .before .before .before .before .before .before .loop-test .taken) (rw (← c .before .before .before .before .before .before .before .before .at32 .ensures, ← c .before .before .before .before .before .before .before .at322 .ensures) (c .before .before .before .before .assign-segment .ensures)) ∙ c .before .before .before .before .before .before .before .before .before .before .loop .inv .2)
+loop-again c = (search needs, search needs, unit-more _ _ _ _ _ _ _ _ (search needs) (c .before .before .before .before .before .before .before .before .before .loop-test .taken) (rw (← c .before .before .before .before .before .before .before .before .at32 .ensures, ← c .before .before .before .before .before .before .before .at322 .ensures) (c .before .before .before .before .assign-segment .ensures)) ∙ c .before .before .before .before .before .before .before .before .before .before .loop .inv .2)
 
 same-length : tie.Need-same-length Inv-loop μ-loop
 same-length c = search needs

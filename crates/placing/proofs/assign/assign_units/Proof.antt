@@ -20,8 +20,11 @@ abbrev μ-loop : tie.MeasureT-loop
 loop-holds : tie.Need-loop-holds Inv-loop μ-loop
 loop-holds c = (omega arith, refl, refl, refl)
 
+cast-unit : tie.Need-cast-unit Inv-loop μ-loop
+cast-unit c = omega (arith, trailing-le 64 (c .before .loop .left))
+
 assign-unit-requires : tie.Need-assign-unit-requires Inv-loop μ-loop
-assign-unit-requires c κs = (c .before .before .before .before .before .before .before .before .before .pre, trailing-le 64 (c .before .before .before .loop .left))
+assign-unit-requires c κs = search needs
 
 without-lowest-requires : tie.Need-without-lowest-requires Inv-loop μ-loop
 without-lowest-requires c κs = search needs
@@ -50,6 +53,7 @@ assign-units-spec =
     Inv-loop
     μ-loop
     loop-holds
+    cast-unit
     assign-unit-requires
     without-lowest-requires
     loop-less

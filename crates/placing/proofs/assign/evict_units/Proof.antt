@@ -20,8 +20,11 @@ abbrev μ-loop : tie.MeasureT-loop
 loop-holds : tie.Need-loop-holds Inv-loop μ-loop
 loop-holds c = (omega arith, refl, refl, refl)
 
+cast-unit : tie.Need-cast-unit Inv-loop μ-loop
+cast-unit c = omega (arith, trailing-le 64 (c .before .loop .left))
+
 evict-unit-requires : tie.Need-evict-unit-requires Inv-loop μ-loop
-evict-unit-requires c κs = trailing-le 64 (c .before .before .before .loop .left)
+evict-unit-requires c κs = search needs
 
 without-lowest-requires : tie.Need-without-lowest-requires Inv-loop μ-loop
 without-lowest-requires c κs = search needs
@@ -50,6 +53,7 @@ evict-units-spec =
     Inv-loop
     μ-loop
     loop-holds
+    cast-unit
     evict-unit-requires
     without-lowest-requires
     loop-less

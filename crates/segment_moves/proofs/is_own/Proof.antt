@@ -1,8 +1,8 @@
 use borrow.Author.Needs.{needs}
 use borrow.Author.Tests.{lt-ltb, le-ltb, eq-eqb, ne-eqb}
 use Rattle.entries.specs.Placing.{isOwn}
-use Rattle.placing.proofs.assign.is_own.Statement.{statement}
-use Rattle.placing.proofs.assign.is_own.Tie as tie
+use Rattle.segment_moves.proofs.is_own.Statement.{statement}
+use Rattle.segment_moves.proofs.is_own.Tie as tie
 
 at-requires : tie.Need-at-requires
 at-requires c κs = search needs

@@ -4,9 +4,9 @@ use mathlib.Core.Path.{_≡_, refl, sym, _∙_}
 use lib.ListN.{length}
 use Rattle.entries.specs.Moves.{words}
 use Rattle.entries.specs.Placing.{insertingUses}
-use Rattle.placing.proofs.PlacingWalks.{uses-more, uses-end}
-use Rattle.placing.proofs.assign.insert_uses.Statement.{statement}
-use Rattle.placing.proofs.assign.insert_uses.Tie as tie
+use Rattle.segment_moves.proofs.UseWalks.{uses-more, uses-end}
+use Rattle.segment_moves.proofs.insert_uses.Statement.{statement}
+use Rattle.segment_moves.proofs.insert_uses.Tie as tie
 
 abbrev Inv-loop : tie.InvT-loop
 Inv-loop ends₀ rests₀ uses first last j₀ ends rests j = (length ends ≡ length ends₀) × (length rests ≡ length rests₀) × (insertingUses (last - j) j uses (words ends rests) ≡ insertingUses (last - first) first uses (words ends₀ rests₀))

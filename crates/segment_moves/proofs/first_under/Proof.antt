@@ -1,8 +1,8 @@
 use borrow.Author.Needs.{needs}
 use borrow.Author.Tests.{eq-eqb, ne-eqb}
 use Rattle.entries.specs.Placing.{firstUnder}
-use Rattle.placing.proofs.assign.first_under.Statement.{statement}
-use Rattle.placing.proofs.assign.first_under.Tie as tie
+use Rattle.segment_moves.proofs.first_under.Statement.{statement}
+use Rattle.segment_moves.proofs.first_under.Tie as tie
 
 returns : tie.Need-returns
 unfolding firstUnder

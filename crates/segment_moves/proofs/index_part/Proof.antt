@@ -2,8 +2,8 @@ use borrow.Author.Needs.{needs}
 use native.Mathlib.Omega.{arith}
 use borrow.Author.Tests.{lt-ltb, le-ltb}
 use Rattle.entries.specs.Placing.{indexPart}
-use Rattle.placing.proofs.assign.index_part.Statement.{statement}
-use Rattle.placing.proofs.assign.index_part.Tie as tie
+use Rattle.segment_moves.proofs.index_part.Statement.{statement}
+use Rattle.segment_moves.proofs.index_part.Tie as tie
 
 uses-before-requires : tie.Need-uses-before-requires
 uses-before-requires c κs = search needs

@@ -1,8 +1,8 @@
 use borrow.Author.Needs.{needs}
 use borrow.Author.Tests.{lt-ltb, le-ltb, eq-eqb, ne-eqb}
-use Rattle.entries.specs.Placing.{freeAt}
-use Rattle.entries.proofs.unit_free.free_at.Statement.{statement}
-use Rattle.entries.proofs.unit_free.free_at.Tie as tie
+use Rattle.unit_free.specs.Spare.{freeAt}
+use Rattle.unit_free.proofs.free_at.Statement.{statement}
+use Rattle.unit_free.proofs.free_at.Tie as tie
 
 mul-find : tie.Need-mul-find
 mul-find c = search needs

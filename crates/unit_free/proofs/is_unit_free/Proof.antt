@@ -3,8 +3,8 @@ use native.Mathlib.Omega.{arith}
 use borrow.Author.Tests.{lt-ltb, le-ltb, le-leb, lt-leb, eq-eqb, ne-eqb}
 use Rattle.reg_matrix.specs.Refusals.{refusal, shortBuffer, rangeRefusal}
 use Rattle.reg_matrix.specs.Questions.{spareRefusal}
-use Rattle.entries.proofs.unit_free.is_unit_free.Statement.{statement}
-use Rattle.entries.proofs.unit_free.is_unit_free.Tie as tie
+use Rattle.unit_free.proofs.is_unit_free.Statement.{statement}
+use Rattle.unit_free.proofs.is_unit_free.Tie as tie
 
 returns : tie.Need-returns
 unfolding spareRefusal refusal shortBuffer rangeRefusal

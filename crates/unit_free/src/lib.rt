@@ -1,13 +1,19 @@
-// Whether a unit is spare over a range (`RegMatrix::is_unit_free`).
+// Whether a unit is spare over a range (`RegMatrix::is_unit_free`), asked of the table's lent numbers.
 ghost use mathlib.Core.Path.{_≡_};
 ghost use mathlib.Core.List.{[], _∷_};
 ghost use lib.ListN.{length};
-ghost use Rattle.entries.specs.Moves.{words};
 ghost use Rattle.reg_matrix.specs.Questions.{spareRefusal};
-ghost use Rattle.entries.specs.Placing.{freeAt, range, spareAnswer};
-use crate::UnitFree;
+ghost use Rattle.entries.specs.Moves.{words};
+ghost use Rattle.unit_free.specs.Spare.{freeAt, range, spareAnswer};
 use lent::at;
 use table_words::search::find;
+
+// Whether a unit is spare over a range: free, taken, or the number of a refusal.
+pub enum UnitFree {
+    Free,
+    Taken,
+    NotAsked(u8),
+}
 
 // Whether the unit's first entry that ends past `from`, if there is one, starts past `to`.
 fn free_at(ends: &[u64], rests: &[u64], unit: u8, from: u32, to: u32) -> bool
