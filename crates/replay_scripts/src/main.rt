@@ -1,6 +1,6 @@
 // Reads a row of scripts (docs/SCRIPT.md) from standard input, each after its length as four bytes, little-endian, and prints their transcripts.
 use script_bytes::input::read_number;
-use scripts::whole::run_script;
+use scripts::run_script;
 
 // Reads the next script and prints its transcript, and answers whether there was one.
 fn replay() -> bool {

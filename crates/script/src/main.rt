@@ -1,5 +1,5 @@
 // Reads a script (docs/SCRIPT.md) from standard input and prints its transcript.
-use scripts::whole::run_script;
+use scripts::run_script;
 
 fn main() {
     run_script(0xFFFF_FFFF_FFFF_FFFF);

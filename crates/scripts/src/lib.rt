@@ -1,282 +1,57 @@
-// Scripts (docs/SCRIPT.md): a job and calls and questions on it, read from standard input as they come, each printed with what it answers. What the
-// lines say is the business of the crate transcript, what the calls do that of the crates below. Here are the calls on a loaded job, one after
-// another; a whole script, with its job, is in `whole`.
+// Whole scripts (docs/SCRIPT.md): how much of the input a script takes, the bytes of its job, and the line that ends a bad one. Its job is loaded, and
+// its calls are made, in the crate script_calls.
 ghost use Prim.Native.Nat.{_≤_};
-ghost use Rattle.scripts.specs.Calls.{CallTook};
-use allocator::Assignment;
-use call_lists::lists::carry_out_list;
-use job::JobHeader;
-use job::USES;
-use lent::from;
-use records::first_records;
+use lent::part8;
+use script_bytes::input::least;
+use script_bytes::input::less;
 use script_bytes::input::read_number;
+use script_bytes::input::read_some;
+use script_bytes::input::skip;
 use script_bytes::output::print;
-use script_io::questions::ask_check;
-use script_io::questions::ask_unit_free;
+use script_calls::loading::run_job;
 use transcript::answers;
-use transcript::states;
 
-pub mod whole;
-
-// A call or a question as it was read, of a job with this header: its kind and its arguments.
-struct Call {
-    header: JobHeader,
-    kind: u64,
-    a: u64,
-    b: u64,
-    c: u64,
-}
-
-// What comes next in a script: a call or a question; its end; or what is bad, of no known kind or not all there.
-enum CallRead {
-    Is(Call),
-    End,
-    Bad,
-}
-
-// How many bytes each argument of a call takes: the place counts the arguments from 0. A check's segments come after its arguments.
-fn argument_size(kind: u64, place: usize) -> u64 {
-    if kind == 1 {
-        if place == 0 {
-            return 2;
-        }
-        if place == 1 {
-            return 1;
-        }
-        return 4;
-    }
-    if kind == 2 {
-        if place == 0 {
-            return 2;
-        }
-        return 0;
-    }
-    if kind == 3 {
-        if place == 0 {
-            return 4;
-        }
-        return 0;
-    }
-    if kind == 6 {
-        if place == 0 {
-            return 1;
-        }
-        return 4;
-    }
-    if place == 2 {
-        return 0;
-    }
-    1
-}
-
-// Reads the arguments of a call or a question of this kind.
-fn read_arguments(left: &mut u64, header: JobHeader, kind: u64) -> CallRead
+// Reads a job of `length` bytes: the first 32,769 are kept, one more than a job may have, and the others are read and forgotten. Answers whether
+// they were all there.
+fn read_job(left: &mut u64, length: u64, bytes: &mut [u8]) -> bool
     ensures { λ r. ⌜ now (left .exit) ≤ now (left .entry) ⌝ }
 {
-    let mut a: u64 = 0;
-    let mut b: u64 = 0;
-    let mut c: u64 = 0;
-    if kind == 0 {
-        return CallRead::Bad;
+    let kept = least(length, 32769);
+    if read_some(left, kept, bytes) < kept {
+        return false;
     }
-    if 6 < kind {
-        return CallRead::Bad;
-    }
-    if !read_number(left, argument_size(kind, 0), &mut a) {
-        return CallRead::Bad;
-    }
-    if !read_number(left, argument_size(kind, 1), &mut b) {
-        return CallRead::Bad;
-    }
-    if !read_number(left, argument_size(kind, 2), &mut c) {
-        return CallRead::Bad;
-    }
-    CallRead::Is(Call {
-        header,
-        kind,
-        a,
-        b,
-        c,
-    })
+    skip(left, less(length, kept))
 }
 
-// Reads the next call or question.
-fn read_call(left: &mut u64, header: JobHeader) -> CallRead
-    ensures { λ r. ⌜ CallTook (now (left .entry)) (now (left .exit)) r ⌝ }
-{
-    let mut kind: u64 = 0;
-    if !read_number(left, 1, &mut kind) {
-        return CallRead::End;
-    }
-    read_arguments(left, header, kind)
-}
-
-// The records of the first n virtual registers.
-fn print_records(records: [Assignment; 512], n: u16, line: &mut [u8]) {
-    let mut v: u16 = 0;
-    while v < n {
-        let i = v as usize;
-        if 512 <= i {
-            return;
-        }
-        let a = records[i];
-        let length = states::record_line(line, v, a);
-        print(line, length);
-        v += 1;
-    }
-}
-
-// The entries of the table, from the first on.
-fn print_entries(header: JobHeader, maps: &[u64], ends: &[u64], rests: &[u64], line: &mut [u8]) {
-    let mut i = 0;
-    while i < 2560 {
-        let length = states::entry_line(line, header, i, maps, ends, rests);
-        if length == 0 {
-            return;
-        }
-        print(line, length);
-        i += 1;
-    }
-}
-
-// The whole state: records, queue, last registers, entries.
-fn print_state(
-    records: [Assignment; 512],
-    header: JobHeader,
-    maps: &[u64],
-    ends: &[u64],
-    rests: &[u64],
-    queue: &[u64],
-    last: &[u8],
-    line: &mut [u8],
-) {
-    print_records(records, header.virt_regs, line);
-    let keys = states::queue_line(line, queue, header.virt_regs);
-    print(line, keys);
-    let regs = states::last_line(line, last);
-    print(line, regs);
-    print_entries(header, maps, ends, rests, line);
-}
-
-impl Call {
-    // Asks a question, and prints what is answered. Answers whether it was all there, with its segments.
-    fn ask(self, left: &mut u64, maps: &[u64], ends: &[u64], rests: &[u64], line: &mut [u8]) -> bool
-        ensures { λ r. ⌜ now (left .exit) ≤ now (left .entry) ⌝ }
-    {
-        if self.kind == 6 {
-            ask_unit_free(self.a, self.b, self.c, ends, rests, line);
-            return true;
-        }
-        let header = self.header;
-        let uses = from(maps, USES);
-        ask_check(
-            left,
-            self.a,
-            self.b,
-            header.regs,
-            self.kind == 5,
-            maps,
-            ends,
-            rests,
-            uses,
-            line,
-        )
-    }
-
-    // Makes a call, and prints what it answers. What returns is the records afterwards.
-    fn make(
-        self,
-        records: [Assignment; 512],
-        j64: &[u64],
-        j32: &[u32],
-        j16: &[u16],
-        j8: &[u8],
-        jf: &[f32],
-        ends: &mut [u64],
-        rests: &mut [u64],
-        queue: &mut [u64],
-        last: &mut [u8],
-        line: &mut [u8],
-    ) -> [Assignment; 512] {
-        let list = [self.kind, self.a, self.b, self.c];
-        let mut numbers = [0u64; 3];
-        let mut refusal: u64 = 0;
-        let mut done: u64 = 0;
-        let after = carry_out_list(
-            records,
-            self.header,
-            &list,
-            j64,
-            j32,
-            j16,
-            j8,
-            jf,
-            ends,
-            rests,
-            queue,
-            last,
-            &mut numbers,
-            &mut refusal,
-            &mut done,
-        );
-        let length = answers::answer_line(line, numbers[0], numbers[1], numbers[2]);
-        print(line, length);
-        after
-    }
-}
-
-// Reads up to the next call, and asks the questions before it. One that is not all there is bad.
-fn next_call(
-    left: &mut u64,
-    header: JobHeader,
-    maps: &[u64],
-    ends: &[u64],
-    rests: &[u64],
-    line: &mut [u8],
-) -> CallRead
-    ensures { λ r. ⌜ CallTook (now (left .entry)) (now (left .exit)) r ⌝ }
-{
-    loop {
-        let read = read_call(left, header);
-        let CallRead::Is(call) = read else {
-            return read;
-        };
-        if call.kind < 4 {
-            return CallRead::Is(call);
-        }
-        if !call.ask(left, maps, ends, rests, line) {
-            return CallRead::Bad;
-        }
-    }
-}
-
-// Makes the calls of a script on a loaded job, each followed by the state, and asks its questions. Answers whether they were good to the script's end.
-fn make_calls(
-    header: JobHeader,
-    left: &mut u64,
-    j64: &[u64],
-    j32: &[u32],
-    j16: &[u16],
-    j8: &[u8],
-    jf: &[f32],
-    ends: &mut [u64],
-    rests: &mut [u64],
-    queue: &mut [u64],
-    last: &mut [u8],
-    line: &mut [u8],
-) -> bool
+// Reads one script, of at most `left` bytes, and prints its transcript up to where it is bad. Answers whether it was good to its end.
+fn print_script(left: &mut u64, line: &mut [u8]) -> bool
     ensures { λ r. ⌜ now (left .exit) ≤ now (left .entry) ⌝ }
 {
-    let mut all = first_records();
-    loop {
-        match next_call(left, header, j64, ends, rests, line) {
-            CallRead::End => return true,
-            CallRead::Bad => return false,
-            CallRead::Is(call) => {
-                let after = call.make(all, j64, j32, j16, j8, jf, ends, rests, queue, last, line);
-                print_state(after, header, j64, ends, rests, queue, last, line);
-                all = after;
-            }
-        }
+    let mut bytes = [0u8; 32769];
+    let mut size: u64 = 0;
+    if !read_number(left, 4, &mut size) {
+        return false;
     }
+    if !read_job(left, size, &mut bytes) {
+        return false;
+    }
+    let kept = least(size, 32769) as usize;
+    run_job(part8(&bytes, 0, kept), left, line)
+}
+
+// Reads a script of `length` bytes, or to the input's end, and prints its transcript, with `bad script` at its end where the script is bad. What a bad
+// script leaves unread is read and forgotten. Answers how many of the script's bytes were not there: none where the input has them all, so never
+// more than `length`.
+pub fn run_script(length: u64) -> u64
+    ensures { λ r. ⌜ r ≤ length ⌝ }
+{
+    let mut left = length;
+    let mut line = [0u8; 16384];
+    if !print_script(&mut left, &mut line) {
+        let size = answers::bad_line(&mut line);
+        print(&line, size);
+    }
+    let rest = left;
+    skip(&mut left, rest);
+    left
 }

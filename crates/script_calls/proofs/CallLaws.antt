@@ -4,10 +4,10 @@ use native.Mathlib.Omega.{arith}
 use mathlib.Core.Path.{_≡_, sym, ap, _∙_, subst}
 use mathlib.Core.Bool.{Bool, false}
 use lib.Dec.{T}
-use Rattle.scripts.specs.declared.Call.{Call}
-use Rattle.scripts.specs.declared.CallRead.{CallRead}
-use Rattle.scripts.specs.declared.CallRead.the-variants.{Is}
-use Rattle.scripts.specs.Calls.{isCall, CallTook}
+use Rattle.script_calls.specs.declared.Call.{Call}
+use Rattle.script_calls.specs.declared.CallRead.{CallRead}
+use Rattle.script_calls.specs.declared.CallRead.the-variants.{Is}
+use Rattle.script_calls.specs.Calls.{isCall, CallTook}
 
 module _ {left left′ : ℕ} where
   -- where no call was there

@@ -2,8 +2,8 @@
 use Prim.Native.Nat.{ℕ, _≤_, _<_}
 use mathlib.Core.Path.{_≡_}
 use mathlib.Core.Bool.{Bool, true, false}
-use Rattle.scripts.specs.declared.CallRead.{CallRead}
-use Rattle.scripts.specs.declared.CallRead.the-variants.{Is, End, Bad}
+use Rattle.script_calls.specs.declared.CallRead.{CallRead}
+use Rattle.script_calls.specs.declared.CallRead.the-variants.{Is, End, Bad}
 
 -- a call was there
 abbrev pub isCall : CallRead → Bool

@@ -4,9 +4,9 @@ use Prim.Native.Nat.{_≤_}
 use native.Mathlib.Omega.{arith}
 use mathlib.Core.Path.{_≡_, refl}
 use lib.ListN.{length}
-use Rattle.scripts.proofs.CallLaws.{no-call, a-call, call-after}
-use Rattle.scripts.proofs.next_call.Statement.{statement}
-use Rattle.scripts.proofs.next_call.Tie as tie
+use Rattle.script_calls.proofs.CallLaws.{no-call, a-call, call-after}
+use Rattle.script_calls.proofs.next_call.Statement.{statement}
+use Rattle.script_calls.proofs.next_call.Tie as tie
 
 abbrev Inv-loop : tie.InvT-loop
 Inv-loop left₀ header maps ends rests line₀ left line = (left ≤ left₀) × (length line ≡ length line₀)

@@ -2,9 +2,9 @@ use borrow.Author.Needs.{needs}
 use native.Mathlib.Omega.{arith}
 use mathlib.Core.Path.{refl}
 use borrow.Author.Tests.{not-false}
-use Rattle.scripts.proofs.CallLaws.{no-call}
-use Rattle.scripts.proofs.read_call.Statement.{statement}
-use Rattle.scripts.proofs.read_call.Tie as tie
+use Rattle.script_calls.proofs.CallLaws.{no-call}
+use Rattle.script_calls.proofs.read_call.Statement.{statement}
+use Rattle.script_calls.proofs.read_call.Tie as tie
 
 read-number-requires : tie.Need-read-number-requires
 read-number-requires c κs = search needs
