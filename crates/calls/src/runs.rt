@@ -4,8 +4,8 @@ ghost use Rattle.run_loop.specs.Running.{lentState};
 ghost use Rattle.calls.specs.Calling.{RunCalled};
 use allocator::Assignment;
 use call_tests::short_buffers;
-use records::words::read;
-use records::words::store;
+use record_words::read;
+use record_words::store;
 use run_loop::ending_number;
 use run_loop::run_on;
 

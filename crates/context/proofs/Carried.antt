@@ -28,9 +28,9 @@ use Rattle.queue.specs.QueueWalk.{setWord}
 use Rattle.moves.specs.Standing.{Stands}
 use Rattle.moves.specs.Moving.{EvictReads, keyIn, Taken, PassedParts, PassedBy}
 use Rattle.moves.proofs.MoveLaws.{unqueued, queued-at}
-use Rattle.records.specs.Words.{recordWord, recordIn, PlainRecord, WordsOf}
-use Rattle.records.proofs.WordLaws.{word-read, word-set, dead-word}
-use Rattle.records.proofs.PlainRecords.{records-length}
+use Rattle.record_words.specs.Words.{recordWord, recordIn, PlainRecord, WordsOf}
+use Rattle.record_words.proofs.WordLaws.{word-read, word-set, dead-word}
+use Rattle.record_words.proofs.PlainRecords.{records-length}
 use Rattle.decisions.specs.declared.Fate.{Fate}
 use Rattle.decisions.specs.declared.Fate.the-variants.{Leaves, Takes, Evicts, Splits, Fails}
 use Rattle.decisions.specs.declared.Decided.{Decided}

@@ -19,9 +19,9 @@ use Rattle.allocator.proofs.Weights.{plain-zero}
 use Rattle.allocator.proofs.Good.{good-reached, holder-good, reached-evict}
 use Rattle.allocator.proofs.Records.{assigned-held, not-assigned, holder-stays, lose-records}
 use Rattle.records.specs.Fields.{flagIn, isHeld, regIn, recordWeight}
-use Rattle.records.specs.Words.{recordWord, recordIn, PlainRecord, WordsOf}
-use Rattle.records.proofs.WordLaws.{word-read, word-set as record-set}
-use Rattle.records.proofs.PlainRecords.{records-length}
+use Rattle.record_words.specs.Words.{recordWord, recordIn, PlainRecord, WordsOf}
+use Rattle.record_words.proofs.WordLaws.{word-read, word-set as record-set}
+use Rattle.record_words.proofs.PlainRecords.{records-length}
 use Rattle.stage.proofs.ReachedMoves.{evict-held, evict-nothing, evictMarked, marked-yes, marked-no, marked-end}
 use Rattle.stage.proofs.ReachedSearch.{record-read}
 use Rattle.decisions.specs.Deciding.{members}

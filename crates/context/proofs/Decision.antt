@@ -42,8 +42,8 @@ use Rattle.job_parts.specs.Shares.{classIn}
 use Rattle.decisions.specs.Deciding.{members, decisionOf, decided, without, lastIn, preferredOr, clearIn, evictedOr, noneClearIn, foundIn, inOrder, lentTo, hintedIn, decidedIn}
 use Rattle.records.specs.Fields.{flagIn, recordWeight}
 use Rattle.moves.specs.Standing.{JobReads, TableStands}
-use Rattle.records.specs.Words.{recordIn, heldIn, WordsOf}
-use Rattle.records.proofs.WordLaws.{word-read, held-are}
+use Rattle.record_words.specs.Words.{recordIn, heldIn, WordsOf}
+use Rattle.record_words.proofs.WordLaws.{word-read, held-are}
 use Rattle.moves.proofs.Shares.{froms-share, tos-share, values-share, hint-regs-share, hint-weights-share, class-share}
 
 -- ---- words and weights

@@ -19,7 +19,7 @@ use Rattle.allocator.specs.Layout.{StateBuffers}
 use Rattle.allocator.specs.Calls.{named}
 use Rattle.allocator.specs.Reached.{Reached}
 use Rattle.records.specs.Fields.{flagIn}
-use Rattle.records.specs.Words.{WordsOf}
+use Rattle.record_words.specs.Words.{WordsOf}
 use Rattle.decisions.specs.declared.Fate.{Fate}
 use Rattle.decisions.specs.declared.Fate.the-variants.{Leaves, Takes, Evicts, Splits, Fails}
 use Rattle.decisions.specs.declared.Decided.{Decided}

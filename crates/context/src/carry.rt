@@ -12,11 +12,11 @@ use lent::put;
 use moves::pass_by;
 use moves::take;
 use moves::take_back;
+use record_words::record_of;
+use record_words::word_of;
 use records::assignment::flag_of;
 use records::assignment::is_assigned;
 use records::assignment::reg_of;
-use records::words::record_of;
-use records::words::word_of;
 
 // All of a set lose their registers, in ascending order, and their records say so.
 fn evict_all(

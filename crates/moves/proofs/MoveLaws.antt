@@ -34,7 +34,7 @@ use Rattle.allocator.proofs.Rebuilt.{named-known}
 use Rattle.allocator.proofs.Good.{Good, Idle, good-reached, holder-good}
 use Rattle.allocator.proofs.Records.{give-last}
 use Rattle.queue.specs.QueueWalk.{keyOf, setWord}
-use Rattle.records.specs.Words.{recordWord}
+use Rattle.record_words.specs.Words.{recordWord}
 use Rattle.stage.proofs.QueueLaws.{tournament-length, set-tournament, key-is, size-at, has-hints}
 use Rattle.stage.proofs.ReachedMoves.{table-stands, uses-lie, assign-gives, evict-loses}
 use Rattle.decisions.specs.declared.Fate.{Fate}

@@ -18,7 +18,7 @@ use Rattle.allocator.specs.Layout.{StateBuffers}
 use Rattle.allocator.specs.Calls.{named}
 use Rattle.allocator.specs.Reached.{Reached}
 use Rattle.queue.specs.QueueWalk.{keyOf, setWord}
-use Rattle.records.specs.Words.{recordWord}
+use Rattle.record_words.specs.Words.{recordWord}
 use Rattle.decisions.specs.declared.Fate.{Fate}
 use Rattle.decisions.specs.declared.Fate.the-variants.{Leaves, Takes, Evicts, Splits, Fails}
 use Rattle.moves.specs.Standing.{Moves, Stands}

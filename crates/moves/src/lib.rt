@@ -29,7 +29,7 @@ use placing::assign::assign;
 use placing::assign::evict;
 use queue::enqueue;
 use queue::remove;
-use records::words::word_of;
+use record_words::word_of;
 
 // Whether a number has hints: they begin before the next one's do.
 fn has_hints(starts: &[u16], v: u16) -> bool

@@ -17,8 +17,8 @@ use Rattle.allocator.specs.Calls.{Call, after}
 use Rattle.allocator.proofs.Good.{reached-after}
 use Rattle.calls.specs.Calling as calling
 use Rattle.calls.specs.Calling.{sizesOf, StateStands}
-use Rattle.records.specs.Words.{recordsIn, AllPlain}
-use Rattle.records.proofs.PlainRecords.{plain-records}
+use Rattle.record_words.specs.Words.{recordsIn, AllPlain}
+use Rattle.record_words.proofs.PlainRecords.{plain-records}
 use Rattle.words.specs.Words.{headerIn, wordsShort}
 use Rattle.pezhkadu.specs.Calling.{Called}
 

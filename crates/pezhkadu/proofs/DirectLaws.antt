@@ -25,7 +25,7 @@ use Rattle.call_tests.specs.Testing.{unknownIn, placeTests, evictTests}
 use Rattle.calls.specs.Calling as calling
 use Rattle.calls.specs.Calling.{sizesOf, refusalNumber, valueNumber, StateStands}
 use Rattle.call_tests.proofs.RefusalLaws.{placing-tests, evicting-tests}
-use Rattle.records.specs.Words.{recordsIn, AllPlain}
+use Rattle.record_words.specs.Words.{recordsIn, AllPlain}
 use Rattle.narrow.specs.Cut.{cut}
 use Rattle.words.specs.Words.{headerIn, wordsShort}
 use Rattle.pezhkadu.specs.Calling.{Called, evictShort, EvictCalled}

@@ -15,7 +15,7 @@ use Rattle.loader.specs.declared.load.JobLoaded.the-variants.{Is, Refused}
 use Rattle.calls.specs.Calling.{sizesOf}
 use Rattle.stage_loader.specs.StageLoading.{StageLoadParts, StageLoadDone}
 use Rattle.records.specs.Fields.{firstRecords}
-use Rattle.records.specs.Words.{recordWord}
+use Rattle.record_words.specs.Words.{recordWord}
 use Rattle.words.specs.Words.{wordsShort, headerWords}
 use Rattle.pezhkadu.specs.Loading.{StoredParts, AnswerStored, LoadParts, LoadCalled}
 

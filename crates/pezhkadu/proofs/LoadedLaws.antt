@@ -30,8 +30,8 @@ use Rattle.calls.specs.Calling.{sizesOf, StateStands}
 use Rattle.stage_loader.specs.StageLoading.{StageLoadParts, StageLoadDone}
 use Rattle.records.specs.Fields.{firstRecords}
 use Rattle.stage_loader.proofs.StageLoads.{just-loaded}
-use Rattle.records.specs.Words.{recordWord, recordIn, recordsIn}
-use Rattle.records.proofs.WordLaws.{first-word}
+use Rattle.record_words.specs.Words.{recordWord, recordIn, recordsIn}
+use Rattle.record_words.proofs.WordLaws.{first-word}
 use Rattle.words.specs.Words.{probeWords, headerWords, probeIn, headerIn}
 use Rattle.words.specs.Words.{wordsShort}
 use Rattle.pezhkadu.specs.Loading.{LoadParts, LoadCalled, JustLoaded}

@@ -17,7 +17,7 @@ use Rattle.allocator.specs.Run.{run}
 use Rattle.moves.specs.Standing.{JobStands}
 use Rattle.run_loop.specs.Running.{endingNumber}
 use Rattle.calls.specs.Calling.{sizesOf, refusalNumber, valueNumber, StateStands}
-use Rattle.records.specs.Words.{recordsIn}
+use Rattle.record_words.specs.Words.{recordsIn}
 use Rattle.words.specs.Words.{recordsLimit, wordsShort, headerIn}
 
 -- A call c that answered n, from S and the words ws to S′ and ws′; `own` says whether one of the words that only firmware lends is short. Of any

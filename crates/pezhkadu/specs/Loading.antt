@@ -15,7 +15,7 @@ use Rattle.moves.specs.Standing.{JobStands}
 use Rattle.calls.specs.Calling.{sizesOf, StateStands}
 use Rattle.stage_loader.specs.StageLoading.{laterState, laterJob}
 use Rattle.records.specs.Fields.{firstRecords}
-use Rattle.records.specs.Words.{recordWord, recordsIn}
+use Rattle.record_words.specs.Words.{recordWord, recordsIn}
 use Rattle.words.specs.Words.{headerWords, headerIn, wordsShort}
 use Rattle.loader.specs.declared.load.JobLoaded.{JobLoaded}
 use Rattle.loader.specs.declared.load.JobLoaded.the-variants.{Is, Refused}

@@ -12,8 +12,8 @@ use lent::put;
 use narrow::cut8;
 use narrow::cut16;
 use narrow::cut32;
-use records::words::put_record;
-use records::words::record_at;
+use record_words::put_record;
+use record_words::record_at;
 use words::header::header_of;
 use words::header::short_words;
 

@@ -4,7 +4,7 @@ ghost use Rattle.run_loop.specs.Running.{lentState};
 ghost use Rattle.pezhkadu.specs.Calling.{RunCalled};
 use call_tests::short_buffers;
 use lent::put;
-use records::words::renew;
+use record_words::renew;
 use run_loop::ending_number;
 use run_loop::run_on;
 

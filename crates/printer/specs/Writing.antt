@@ -8,7 +8,7 @@ use Rattle.reg_matrix.specs.Lists.{concatMap}
 use Rattle.listing.specs.declared.Listing.{Listing}
 use Rattle.listing.specs.Walk.{linesFrom}
 use Rattle.lines.specs.LineTexts.{Lent}
-use Rattle.records.specs.Words.{recordsIn}
+use Rattle.record_words.specs.Words.{recordsIn}
 use Rattle.printer.specs.declared.Written.{Written}
 
 -- n bytes were to be written: the writes that succeeded were of all of them where the answer says so, and never of more

@@ -13,7 +13,7 @@ use Rattle.allocator.specs.Sheet.{sheetOf, printed}
 use Rattle.listing.specs.declared.Listing.{Listing}
 use Rattle.lines.specs.LineTexts.{Lent}
 use Rattle.listing.specs.Walk.{linesFrom}
-use Rattle.records.specs.Words.{recordsIn}
+use Rattle.record_words.specs.Words.{recordsIn}
 use Rattle.sheets.specs.declared.Printing.{Printing}
 use Rattle.sheets.specs.Printing.{sheetLimits, sheetSizes, loadedWith, Begun}
 

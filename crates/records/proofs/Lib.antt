@@ -1,4 +1,1 @@
 pub mod FieldLaws
-pub mod Filling
-pub mod WordLaws
-pub mod PlainRecords

@@ -1,11 +1,10 @@
-// The records: what one says, and all 512 in lent numbers, a word each.
+// The records: what one says, as they start out, and after a direct call.
 ghost use mathlib.Core.Path.{_≡_};
 ghost use Rattle.records.specs.Fields.{firstRecords};
 use allocator::Assignment;
 
 pub mod assignment;
 pub mod changes;
-pub mod words;
 
 // The initial standing of all virtual registers: unassigned, with the flag off.
 pub fn first_records() -> [Assignment; 512]

@@ -17,7 +17,7 @@ use Rattle.listing.specs.declared.Step.{Step}
 use Rattle.listing.specs.declared.Step.the-variants.{Line, Refused, End}
 use Rattle.lines.specs.LineTexts.{Lent}
 use Rattle.listing.specs.Walk.{Found, noMore, aLine, lineLimit, found, stepOf, printedOn, AnsweredIfLong, numberAt}
-use Rattle.records.specs.Words.{recordIn}
+use Rattle.record_words.specs.Words.{recordIn}
 use Rattle.words.specs.Words.{wordsShort, headerIn, endingIn, placeIn, placeNumber, standingNumber}
 use Rattle.results.specs.Reading.{standingAnswer, listingIn, nextWords, stepWords, stepRefusal, lineShort, foundIn, LineCalled}
 

@@ -31,8 +31,8 @@ use Rattle.lines.specs.LineTexts.{Lent, standingText}
 use Rattle.listing.specs.Walk.{Found, noMore, aLine, spareFound, isEntry, entryAt, entryFound, virtRegFound, foundAt, found, moved, numberAt, recordAt, linesFrom, linesOf}
 use Rattle.listing.proofs.LineLaws.{number-small, lines-told}
 use Rattle.listing.proofs.SheetLaws.{Laid, together, reached-sheet}
-use Rattle.records.specs.Words.{recordIn, recordsIn}
-use Rattle.records.proofs.WordLaws.{record-in}
+use Rattle.record_words.specs.Words.{recordIn, recordsIn}
+use Rattle.record_words.proofs.WordLaws.{record-in}
 use Rattle.words.specs.Words.{headerIn, endingIn, placeNumber, placeIn, standingNumber}
 use Rattle.words.specs.Words.{wordsShort}
 use Rattle.results.specs.Reading.{standingAnswer, listingIn, foundIn, linesAt, linesAfter}

@@ -12,7 +12,7 @@ use Rattle.listing.specs.declared.Step.{Step}
 use Rattle.listing.specs.declared.Step.the-variants.{Line, Refused, End}
 use Rattle.lines.specs.LineTexts.{Lent}
 use Rattle.listing.specs.Walk.{Found, noMore, aLine, lineLimit, found, printedOn, numberAt, linesFrom}
-use Rattle.records.specs.Words.{recordIn, recordsIn}
+use Rattle.record_words.specs.Words.{recordIn, recordsIn}
 use Rattle.words.specs.Words.{wordsShort, headerIn, endingIn, placeIn, placeNumber, standingNumber}
 
 -- 15 where a slice is short, 8 where v is no number, or how its record stands

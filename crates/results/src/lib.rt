@@ -7,7 +7,7 @@ use lent::at;
 use lent::put;
 use listing::Listing;
 use listing::Step;
-use records::words::record_of;
+use record_words::record_of;
 use words::header::header_of;
 use words::header::short_words;
 use words::numbers::ending_of;

@@ -27,7 +27,7 @@ use Rattle.queue.specs.declared.Next.{Next}
 use Rattle.queue.specs.declared.Next.the-variants.{Nobody, Number}
 use Rattle.stage.proofs.QueueLaws.{tournament-length, greatest-next}
 use Rattle.records.specs.Fields.{flagIn}
-use Rattle.records.specs.Words.{recordIn, heldIn, WordsOf}
+use Rattle.record_words.specs.Words.{recordIn, heldIn, WordsOf}
 use Rattle.decisions.specs.declared.Fate.{Fate}
 use Rattle.decisions.specs.declared.Fate.the-variants.{Leaves, Takes, Evicts, Splits, Fails}
 use Rattle.decisions.specs.declared.Decided.{Decided}

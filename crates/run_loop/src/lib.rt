@@ -78,7 +78,7 @@ impl Queued {
     }
 }
 
-// Makes at most `budget` dequeues, where the records stand in the words (`records::words`).
+// Makes at most `budget` dequeues, where the records stand in the words (`record_words`).
 pub fn run_on(
     budget: u64,
     j64: &[u64],

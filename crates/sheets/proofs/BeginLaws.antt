@@ -35,9 +35,9 @@ use Rattle.stage_loader.proofs.StageLoads.{append-short, behindState, laid-stat
 use Rattle.listing.specs.declared.Listing.{Listing}
 use Rattle.lines.specs.LineTexts.{lent}
 use Rattle.listing.proofs.SheetLaws.{Laid, reached-sheet}
-use Rattle.records.specs.Words.{recordWord, recordsIn, AllPlain, WordsOf}
-use Rattle.records.proofs.WordLaws.{tail-kept, in-front, front-words}
-use Rattle.records.proofs.PlainRecords.{plain-records, records-length}
+use Rattle.record_words.specs.Words.{recordWord, recordsIn, AllPlain, WordsOf}
+use Rattle.record_words.proofs.WordLaws.{tail-kept, in-front, front-words}
+use Rattle.record_words.proofs.PlainRecords.{plain-records, records-length}
 use Rattle.sheets.specs.declared.Printing.{Printing}
 use Rattle.sheets.specs.declared.Printing.the-variants.{Refused, At}
 use Rattle.sheets.specs.Printing.{sheetLimits, sheetSizes, loadedWith, ranOf, stateIn, recordsOn, startOf, shown, BegunParts, Begun, RunStored}

@@ -15,7 +15,7 @@ use Rattle.listing.specs.declared.Step.the-variants.{Line, End as NoMore}
 use Rattle.lines.specs.LineTexts.{Lent}
 use Rattle.listing.specs.Walk.{lineLimit, linesFrom}
 use Rattle.listing.proofs.FewLines.{lines-few}
-use Rattle.records.specs.Words.{recordsIn}
+use Rattle.record_words.specs.Words.{recordsIn}
 use Rattle.sheets.specs.Printing.{LeftToPrint, NextLine}
 
 -- the first n bytes of a line

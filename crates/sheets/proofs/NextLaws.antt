@@ -14,8 +14,8 @@ use Rattle.listing.specs.declared.Step.the-variants.{Line, End as NoMore, Refus
 use Rattle.lines.specs.LineTexts.{Lent}
 use Rattle.listing.specs.Walk.{lineLimit, Found, noMore, aLine, found, stepOf, AnsweredIfLong, numberAt, recordAt, linesFrom}
 use Rattle.listing.proofs.LineLaws.{number-small, Room, found-room, Told, next-told}
-use Rattle.records.specs.Words.{recordIn, recordsIn}
-use Rattle.records.proofs.WordLaws.{record-in}
+use Rattle.record_words.specs.Words.{recordIn, recordsIn}
+use Rattle.record_words.proofs.WordLaws.{record-in}
 use Rattle.sheets.specs.Printing.{LeftToPrint, NextLine}
 
 -- the record that a position asks about is that of its number's word

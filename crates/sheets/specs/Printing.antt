@@ -30,7 +30,7 @@ use Rattle.listing.specs.declared.Step.{Step}
 use Rattle.listing.specs.declared.Step.the-variants.{Line, End as NoMore, Refused as NotListed}
 use Rattle.lines.specs.LineTexts.{Lent, lent}
 use Rattle.listing.specs.Walk.{lineLimit, found, AnsweredIfLong, numberAt, linesFrom}
-use Rattle.records.specs.Words.{recordWord, recordIn, recordsIn, AllPlain}
+use Rattle.record_words.specs.Words.{recordWord, recordIn, recordsIn, AllPlain}
 use Rattle.sheets.specs.declared.Printing.{Printing}
 use Rattle.sheets.specs.declared.Printing.the-variants.{Refused, At}
 

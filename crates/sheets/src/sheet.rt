@@ -9,9 +9,9 @@ use job::JobHeader;
 use lent::at;
 use listing::Listing;
 use listing::Step;
+use record_words::record_of;
+use record_words::store;
 use records::first_records;
-use records::words::record_of;
-use records::words::store;
 use run_loop::run_on;
 
 // So many words, at most the 512 of the records.

@@ -6,7 +6,7 @@ ghost use Rattle.reg_matrix.specs.Lists.{isNil};
 ghost use Rattle.matrix.specs.Walk.{lent};
 ghost use Rattle.allocator.specs.declared.CandidateReg.{CandidateReg};
 ghost use Rattle.order.specs.OrderWalk.{Computed, offersFrom};
-ghost use Rattle.records.specs.Words.{heldIn};
+ghost use Rattle.record_words.specs.Words.{heldIn};
 ghost use Rattle.stage.specs.AllocateWalk.{reportsOn, noneOf, availableIn, noBest, taking, byCost, improves, evictIn, byWeight, prefers, preferIn};
 ghost use Prim.Native.Nat.{_+_, _≤_};
 ghost use lib.ListN.{length};

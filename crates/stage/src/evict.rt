@@ -3,7 +3,7 @@ ghost use mathlib.Core.Path.{_≡_};
 ghost use mathlib.Core.Bool.{false};
 ghost use lib.ListN.{replicate};
 ghost use Rattle.job.specs.Model.{zeroWeight};
-ghost use Rattle.records.specs.Words.{heldIn};
+ghost use Rattle.record_words.specs.Words.{heldIn};
 ghost use Rattle.matrix.specs.Walk.{lent};
 ghost use Rattle.stage.specs.EvictWalk.{canWin, zeroCost, tried, triedBelow};
 ghost use Rattle.stage.specs.AllocateWalk.{reportsOn};
@@ -14,7 +14,7 @@ use evict_costs::with_holder;
 use lent::at_float;
 use matrix::Step;
 use matrix::check::enter;
-use records::words::held_at;
+use record_words::held_at;
 use reg_matrix::InterferenceKind;
 
 // What a check's reports say of a candidate: the cost with each holder counted once, the holders' weights added at every report, who the

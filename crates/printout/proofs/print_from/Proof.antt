@@ -6,7 +6,7 @@ use mathlib.Core.Path.{_≡_, refl, _∙_}
 use lib.ListN.{length}
 use Rattle.lines.specs.LineTexts.{lent}
 use Rattle.listing.specs.Walk.{linesFrom}
-use Rattle.records.specs.Words.{recordsIn}
+use Rattle.record_words.specs.Words.{recordsIn}
 use Rattle.sheets.proofs.NextLaws.{next-fewer}
 use Rattle.printout.proofs.WholeLaws.{PrintedTo, print-start, print-end, not-refused, print-room, print-more}
 use Rattle.printout.proofs.print_from.Statement.{statement}

@@ -7,7 +7,7 @@ use mathlib.Core.List.{List}
 use lib.ListN.{length}
 use Rattle.matrix.specs.Walk.{lent}
 use Rattle.allocator.specs.declared.CandidateReg.{CandidateReg}
-use Rattle.records.specs.Words.{heldIn}
+use Rattle.record_words.specs.Words.{heldIn}
 use Rattle.order.specs.OrderWalk.{Computed, offersFrom}
 use Rattle.stage.specs.AllocateWalk.{noBest, evictIn}
 use Rattle.stage.proofs.AllocateLaws.{tried-is, evict-end, evict-skip, evict-past, evict-better, evict-not}

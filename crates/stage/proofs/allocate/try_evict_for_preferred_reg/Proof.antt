@@ -7,7 +7,7 @@ use mathlib.Core.List.{List}
 use lib.ListN.{length, drop}
 use Rattle.matrix.specs.Walk.{lent}
 use Rattle.allocator.specs.declared.CandidateReg.{CandidateReg}
-use Rattle.records.specs.Words.{heldIn}
+use Rattle.record_words.specs.Words.{heldIn}
 use Rattle.order.specs.OrderWalk.{Computed}
 use Rattle.stage.specs.AllocateWalk.{preferIn}
 use Rattle.order.proofs.OrderLaws.{computed-length, hinted-at}

@@ -5,8 +5,8 @@ use mathlib.Core.Bool.{false}
 use lib.ListN.{length, length-set}
 use borrow.Author.Tests.{lt-ltb, le-ltb, not-true, not-false}
 use Rattle.matrix.specs.Walk.{lent, remaining}
-use Rattle.records.specs.Words.{heldIn}
-use Rattle.records.proofs.WordLaws.{held-read}
+use Rattle.record_words.specs.Words.{heldIn}
+use Rattle.record_words.proofs.WordLaws.{held-read}
 use Rattle.stage.specs.EvictWalk.{tryBelow, triedBelow}
 use Rattle.stage.specs.AllocateWalk.{reportsOn}
 use Rattle.stage.proofs.EvictLaws.{going-on, next-less, below-end, below-fixed, below-more, below-stop, below-far}

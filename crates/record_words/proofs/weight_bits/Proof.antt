@@ -1,7 +1,7 @@
-use Rattle.records.proofs.WordLaws.{is-number, differs-plain, weight-back}
+use Rattle.record_words.proofs.WordLaws.{is-number, differs-plain, weight-back}
 use mathlib.Core.Path.{refl}
-use Rattle.records.proofs.words.weight_bits.Statement.{statement}
-use Rattle.records.proofs.words.weight_bits.Tie as tie
+use Rattle.record_words.proofs.weight_bits.Statement.{statement}
+use Rattle.record_words.proofs.weight_bits.Tie as tie
 
 float-to-bits-result : tie.Need-float-to-bits-result
 float-to-bits-result c = is-number _ (c .if1 .left)

@@ -1,7 +1,7 @@
 use Rattle.job.proofs.WeightBits.{not-nan}
 use borrow.Author.Tests.{le-leb, lt-leb}
-use Rattle.records.proofs.words.weight_in.Statement.{statement}
-use Rattle.records.proofs.words.weight_in.Tie as tie
+use Rattle.record_words.proofs.weight_in.Statement.{statement}
+use Rattle.record_words.proofs.weight_in.Tie as tie
 
 float-from-bits-result : tie.Need-float-from-bits-result
 float-from-bits-result c = rw (not-nan _ (c .if1 .taken)) tt

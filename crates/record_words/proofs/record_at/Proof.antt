@@ -1,8 +1,8 @@
 use borrow.Author.Needs.{needs}
 use mathlib.Core.Path.{sym, _∙_}
-use Rattle.records.proofs.WordLaws.{record-in, record-past}
-use Rattle.records.proofs.words.record_at.Statement.{statement}
-use Rattle.records.proofs.words.record_at.Tie as tie
+use Rattle.record_words.proofs.WordLaws.{record-in, record-past}
+use Rattle.record_words.proofs.record_at.Statement.{statement}
+use Rattle.record_words.proofs.record_at.Tie as tie
 
 returns : tie.Need-returns
 returns c = record-past _ _ (c .if1 .taken)

@@ -19,9 +19,9 @@ use Rattle.job.specs.Model.{Plain, zeroWeight}
 use Rattle.job.proofs.WeightBits.{nan-bits}
 use Rattle.allocator.specs.declared.Assignment.{Assignment}
 use Rattle.allocator.specs.declared.Assignment.the-variants.{Assigned, Unassigned, Dead}
 use Rattle.records.specs.Fields.{regIn, recordWeight, kindOf}
-use Rattle.records.specs.Words.{weightBits, weightIn, recordWord, recordIn, recordsIn, heldIn, PlainRecord, AllPlain, WordsOf}
+use Rattle.record_words.specs.Words.{weightBits, weightIn, recordWord, recordIn, recordsIn, heldIn, PlainRecord, AllPlain, WordsOf}
 use Rattle.records.proofs.FieldLaws.{record-back}
 
 -- ---- bits
 

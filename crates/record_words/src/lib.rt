@@ -7,15 +7,15 @@ ghost use lib.ListN.{length, getD, set, drop};
 ghost use lib.Seq.{sets};
 ghost use Rattle.job.specs.Model.{Plain};
 ghost use Rattle.allocator.specs.declared.Assignment.the-variants.{Dead};
 ghost use Rattle.records.specs.Fields.{recordWeight};
-ghost use Rattle.records.specs.Words.{weightBits, weightIn, recordWord, recordIn, recordsIn, PlainRecord, AllPlain};
-use crate::assignment::held_weight;
-use crate::assignment::kind_of;
-use crate::assignment::record_by;
-use crate::assignment::reg_of;
+ghost use Rattle.record_words.specs.Words.{weightBits, weightIn, recordWord, recordIn, recordsIn, PlainRecord, AllPlain};
 use allocator::Assignment;
 use lent::at;
 use lent::put;
+use records::assignment::held_weight;
+use records::assignment::kind_of;
+use records::assignment::record_by;
+use records::assignment::reg_of;
 
 // The bits of a weight. What is no number, and so differs from itself, has those of 0.
 fn weight_bits(w: f32) -> u32

@@ -1,7 +1,7 @@
 use borrow.Author.Needs.{needs}
-use Rattle.records.proofs.WordLaws.{word-told}
-use Rattle.records.proofs.words.word_of.Statement.{statement}
-use Rattle.records.proofs.words.word_of.Tie as tie
+use Rattle.record_words.proofs.WordLaws.{word-told}
+use Rattle.record_words.proofs.word_of.Statement.{statement}
+use Rattle.record_words.proofs.word_of.Tie as tie
 
 held-weight-requires : tie.Need-held-weight-requires
 held-weight-requires c κs = search needs

@@ -1,6 +1,6 @@
 use borrow.Author.Needs.{needs}
-use Rattle.records.proofs.words.held_at.Statement.{statement}
-use Rattle.records.proofs.words.held_at.Tie as tie
+use Rattle.record_words.proofs.held_at.Statement.{statement}
+use Rattle.record_words.proofs.held_at.Tie as tie
 
 at-requires : tie.Need-at-requires
 at-requires c κs = search needs

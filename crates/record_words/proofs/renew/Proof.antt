@@ -1,8 +1,8 @@
 use borrow.Author.Needs.{needs}
 use Prim.Native.Nat.{_-_}
-use Rattle.records.proofs.WordLaws.{Renewing, renew-start, renew-more, store-end, store-back}
-use Rattle.records.proofs.words.renew.Statement.{statement}
-use Rattle.records.proofs.words.renew.Tie as tie
+use Rattle.record_words.proofs.WordLaws.{Renewing, renew-start, renew-more, store-end, store-back}
+use Rattle.record_words.proofs.renew.Statement.{statement}
+use Rattle.record_words.proofs.renew.Tie as tie
 
 abbrev Inv-loop : tie.InvT-loop
 Inv-loop words₀ i₀ words i = Renewing words₀ words i

@@ -2,10 +2,10 @@ use borrow.Author.Needs.{needs}
 use Prim.Native.Nat.{_-_}
 use mathlib.Core.Path.{refl, ap, _∙_}
 use lib.ListN.{getD}
-use Rattle.records.specs.Words.{recordIn, recordsIn}
-use Rattle.records.proofs.Filling.{Filling, fill-start, fill-more, fill-end}
-use Rattle.records.proofs.words.read.Statement.{statement}
-use Rattle.records.proofs.words.read.Tie as tie
+use Rattle.record_words.specs.Words.{recordIn, recordsIn}
+use Rattle.record_words.proofs.Filling.{Filling, fill-start, fill-more, fill-end}
+use Rattle.record_words.proofs.read.Statement.{statement}
+use Rattle.record_words.proofs.read.Tie as tie
 
 abbrev Inv-loop : tie.InvT-loop
 Inv-loop words all₀ i₀ all i = Filling (λ v. recordIn (getD words v 0)) 512 all i

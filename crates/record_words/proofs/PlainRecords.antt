@@ -16,7 +16,7 @@ use Rattle.allocator.specs.State.{State, assignment, isLeftOver, flag, heldBy, 
 use Rattle.allocator.specs.Reached.{Reached}
 use Rattle.allocator.proofs.Weights.{plain-zero}
 use Rattle.allocator.proofs.Good.{good-reached}
-use Rattle.records.specs.Words.{PlainRecord, AllPlain}
+use Rattle.record_words.specs.Words.{PlainRecord, AllPlain}
 
 held-plain : (l f : Bool) (o : Option CandidateReg) → ((c : CandidateReg) → o ≡ some c → Plain (c .«preference_weight»)) → PlainRecord (assignment l f o)
 held-plain true f o h = plain-zero

@@ -1,7 +1,7 @@
 use borrow.Author.Needs.{needs}
-use Rattle.records.proofs.WordLaws.{put-inside, put-past}
-use Rattle.records.proofs.words.put_record.Statement.{statement}
-use Rattle.records.proofs.words.put_record.Tie as tie
+use Rattle.record_words.proofs.WordLaws.{put-inside, put-past}
+use Rattle.record_words.proofs.put_record.Statement.{statement}
+use Rattle.record_words.proofs.put_record.Tie as tie
 
 word-of-requires : tie.Need-word-of-requires
 word-of-requires c κs = search needs

@@ -1,8 +1,8 @@
 use borrow.Author.Needs.{needs}
 use mathlib.Core.Path.{_∙_}
-use Rattle.records.specs.Words.{recordIn}
-use Rattle.records.proofs.words.record_of.Statement.{statement}
-use Rattle.records.proofs.words.record_of.Tie as tie
+use Rattle.record_words.specs.Words.{recordIn}
+use Rattle.record_words.proofs.record_of.Statement.{statement}
+use Rattle.record_words.proofs.record_of.Tie as tie
 
 cast-bits : tie.Need-cast-bits
 cast-bits c = search needs

@@ -1,8 +1,8 @@
 use borrow.Author.Needs.{needs}
 use Prim.Native.Nat.{_-_}
-use Rattle.records.proofs.WordLaws.{Storing, store-start, store-more, store-end, store-back}
-use Rattle.records.proofs.words.store.Statement.{statement}
-use Rattle.records.proofs.words.store.Tie as tie
+use Rattle.record_words.proofs.WordLaws.{Storing, store-start, store-more, store-end, store-back}
+use Rattle.record_words.proofs.store.Statement.{statement}
+use Rattle.record_words.proofs.store.Tie as tie
 
 abbrev Inv-loop : tie.InvT-loop
 Inv-loop words₀ records i₀ words i = Storing records words₀ words i
