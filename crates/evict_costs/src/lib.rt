@@ -5,14 +5,14 @@ ghost use Rattle.evict_costs.specs.Costs.{addHolder, withHolder, mayEvic
 use allocator::EvictCost;
 
 // The heavier of two weights.
-pub fn heavier(a: f32, b: f32) -> f32
+fn heavier(a: f32, b: f32) -> f32
     ensures { λ r. ⌜ r ≡ maxWeight a b ⌝ }
 {
     if a < b { b } else { a }
 }
 
 // The cost with one holder more.
-pub fn add_holder(cost: EvictCost, held: f32, spill: f32) -> EvictCost
+fn add_holder(cost: EvictCost, held: f32, spill: f32) -> EvictCost
     ensures { λ r. ⌜ r ≡ addHolder cost held spill ⌝ }
 {
     EvictCost {

@@ -57,7 +57,7 @@ wordsShort head ws = ltb (length head) headerLimit || ltb (length ws) recordsLim
 
 -- ---- numbers
 
--- the ending of a word's number, as `endingNumber` of context has it
+-- the ending of a word's number, as `endingNumber` of run_loop has it
 unfoldable pub endingIn : ℕ → Ending
 endingIn n = cond (eqb n 1) Done (cond (eqb n 2) Spent TooMany)
 
