@@ -29,7 +29,7 @@ enum-told : tie.Need-enum-told Inv-loop μ-loop
 enum-told c = search needs
 
 same-length : tie.Need-same-length Inv-loop μ-loop
-same-length c = c .before .before .before .line .given
+same-length c = search needs
 
 returns : tie.Need-returns Inv-loop μ-loop
 returns c = lines-end _ _ _ _ _ (c .before .before .before .before .before .before .loop .inv .0) _ _ (c .before .before .before .before .before .before .loop .inv .1) (c .before .before .before .before .next .kept .1 .1 .1 .1 .1 .0) _ (c .before .before .before .before .next .ensures) (c .enum-told .given .1)
@@ -38,7 +38,7 @@ enum-told-2 : tie.Need-enum-told-2 Inv-loop μ-loop
 enum-told-2 c = search needs
 
 same-length-2 : tie.Need-same-length-2 Inv-loop μ-loop
-same-length-2 c = c .before .before .before .line .given
+same-length-2 c = search needs
 
 returns-2 : tie.Need-returns-2 Inv-loop μ-loop
 returns-2 c = lines-short _ _ _ _ _ (c .before .before .before .before .before .before .loop .inv .0)
@@ -50,7 +50,7 @@ write-front-requires : tie.Need-write-front-requires Inv-loop μ-loop
 write-front-requires c κs = search needs
 
 same-length-3 : tie.Need-same-length-3 Inv-loop μ-loop
-same-length-3 c = c .before .before .before .before .before .before .before .before .line .given
+same-length-3 c = search needs
 
 returns-3 : tie.Need-returns-3 Inv-loop μ-loop
 returns-3 c = lines-short _ _ _ _ _ (c .before .before .before .before .before .before .before .before .before .before .before .loop .inv .0)
