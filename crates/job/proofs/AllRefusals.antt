@@ -204,8 +204,8 @@ rows =
     job "04 0002" 1 ∷
     -- 513
     job "04 0102" 4 ∷
-    -- 512, to the end
-    long "04 0002" (defs 512) 0 ∷
+    -- 9, to the end
+    long "04 0900" (defs 9) 0 ∷
     -- neither end nor value
     job "04 0100 03 00 08000000" 3 ∷
     -- both end and value
@@ -287,8 +287,8 @@ rows =
     job "08 0002" 1 ∷
     -- 513
     job "08 0102" 4 ∷
-    -- 512, to the end
-    long "0B 01 0100000000000000 01 01 00 0002" (places 512 (λ v. plain 1)) 0 ∷
+    -- 9, to the end
+    long "0B 01 0100000000000000 01 01 00 0900" (places 9 (λ v. plain 1)) 0 ∷
     -- bit 6
     number "60" 3 ∷
     -- bit 7
@@ -374,12 +374,12 @@ rows =
     number "20 0102" 4 ∷
     -- a count of 0
     number "20 0000" 5 ∷
-    -- 512 in all, of one
-    long "0B 01 0100000000000000 01 01 00 0100" (plain 512) 0 ∷
-    -- 512 in all, of two
-    long "0B 01 0100000000000000 01 01 00 0200" (plain 511 ++ plain 1) 0 ∷
+    -- 512 in all, of two: the second's count is read, and none follows
+    long "0B 01 0100000000000000 01 01 00 0200" (plain 1 ++ (0x20 ∷ littleEndian 2 511)) 1 ∷
     -- 513 in all
-    long "0B 01 0100000000000000 01 01 00 0200" (plain 511 ++ plain 2) 4 ∷
+    long "0B 01 0100000000000000 01 01 00 0200" (plain 1 ++ (0x20 ∷ littleEndian 2 512)) 4 ∷
+    -- 9 of one, to the end
+    long "0B 01 0100000000000000 01 01 00 0100" (plain 9) 0 ∷
     -- an empty segment
     number "20 0100 08000000 08000000 0100" 5 ∷
     -- a segment that ends before it starts

@@ -19,10 +19,10 @@ use Rattle.listing.specs.declared.Step.{Step}
 use Rattle.listing.specs.declared.Step.the-variants.{Line, End as NoMore}
 use Rattle.listing.specs.Walk.{lineLimit}
 use Rattle.listing.proofs.LineLaws.{refused-room, refused-front}
-use Rattle.lines.specs.LineTexts.{Lent, lent}
+use Rattle.lines.specs.LineTexts.{Lent}
 use Rattle.sheets.specs.declared.Printing.{Printing}
 use Rattle.sheets.specs.declared.Printing.the-variants.{Refused, At}
-use Rattle.sheets.specs.Printing.{sheetLimits, sheetSizes, shown, Begun, NextLine}
+use Rattle.sheets.specs.Printing.{sheetLimits, sheetSizes, linesLent, shown, Begun, NextLine}
 use Rattle.sheets.proofs.CountLaws.{front-part, Counted, count-end, line-size, count-room, count-more}
 use Rattle.printer.specs.declared.Written.{Written}
 use Rattle.printer.specs.Writing.{WrittenOf, linesSize}
@@ -54,31 +54,37 @@ module _ (l : Lent) (words : List ℕ) (c₀ c : Listing) (n : ℕ) (so : Counte
           let size : w .bytes ≡ k = u .all (not-false (w .whole) e) ∙ line-size l words c₀ c n so s t long same r d k after told in
           subst (λ (i : ℕ). Counted l words c₀ after (n + i)) (sym size) (count-more l words c₀ c n so s t long same r d k after told)
 
--- ---- the whole, of any bytes, with no short buffer
+-- ---- what is to be printed
 
-module _ (bytes : List ℕ) (B : JobSlices) (S : StateBuffers) (W : List ℕ) (B′ : JobSlices) (S′ : StateBuffers) (W′ : List ℕ) (r : Printing)
-    (d : Begun bytes B S W B′ S′ W′ r) (lends : shortBuffer sheetLimits (sheetSizes B S W) ≡ false) (w : Written) where
-  as-printed : (text : List ℕ) → text ≡ shown r B′ S′ W′ → WrittenOf (length text) w → WrittenOf (length (printed bytes)) w
-  as-printed text e = subst (λ (x : List ℕ). WrittenOf (length x) w) (e ∙ d .prints lends)
-
+module _ (p : Printing) (l : Lent) (words : List ℕ) (w : Written) where
   -- a refusal's line, in a lent line
   pub refusal-written :
       (m : ℕ)
-      → r ≡ Refused m
+      → p ≡ Refused m
       → (s t : List ℕ) (k : ℕ)
       → lineLimit ≤ length s
       → k ≡ length (refusedLine m)
       → t ≡ sets s 0 (refusedLine m)
       → WrittenOf (length (part 0 k t)) w
-      → WrittenOf (length (printed bytes)) w
+      → WrittenOf (length (shown p l words)) w
   unfolding shown
   refusal-written m told s t k long size stored =
       let h : k ≤ length t = omega (arith, size, refused-room m, long, ap (λ (x : List ℕ). length x) stored, length-sets s 0 (refusedLine m)) in
       let e : part 0 k t ≡ refusedLine m =
       front-part k t h ∙ ap (λ (i : ℕ). take i t) size ∙ ap (take (length (refusedLine m))) stored ∙ refused-front s m long in
-      as-printed (part 0 k t) (e ∙ sym (ap (λ (x : Printing). shown x B′ S′ W′) told))
+      subst (λ (x : List ℕ). WrittenOf (length x) w) (e ∙ sym (ap (λ (x : Printing). shown x l words) told))
 
-  pub sheet-written :
-      (c : Listing) → r ≡ At c → WrittenOf (linesSize c (lent (B′ .j64) (S′ .ends) (S′ .rests)) W′) w → WrittenOf (length (printed bytes)) w
+  pub lines-written : (c : Listing) → p ≡ At c → WrittenOf (linesSize c l words) w → WrittenOf (length (shown p l words)) w
   unfolding shown
-  sheet-written c told = as-printed _ (sym (ap (λ (x : Printing). shown x B′ S′ W′) told))
+  lines-written c told = subst (λ (x : List ℕ). WrittenOf (length x) w) (sym (ap (λ (x : Printing). shown x l words) told))
+
+-- ---- the whole, of any bytes, with no short buffer
+
+pub sheet-written :
+    (bytes : List ℕ) (B : JobSlices) (S : StateBuffers) (W : List ℕ) (B′ : JobSlices) (S′ : StateBuffers) (W′ : List ℕ) (r : Printing)
+    → Begun bytes B S W B′ S′ W′ r
+    → shortBuffer sheetLimits (sheetSizes B S W) ≡ false
+    → (w : Written)
+    → WrittenOf (length (shown r (linesLent B′ S′) W′)) w
+    → WrittenOf (length (printed bytes)) w
+sheet-written bytes B S W B′ S′ W′ r d lends w = subst (λ (x : List ℕ). WrittenOf (length x) w) (d .prints lends)

@@ -1,15 +1,10 @@
 // Writes the sheet of a job's bytes to a descriptor, line by line. What is written is what the crate sheets says; here is what moves it, and counts it.
-ghost use mathlib.Core.Path.{_≡_};
-ghost use mathlib.Core.Bool.{false};
 ghost use Prim.Native.Nat.{_≤_};
 ghost use lib.ListN.{length};
 ghost use Rattle.lent.specs.Parts.{part};
-ghost use Rattle.reg_matrix.specs.Refusals.{shortBuffer};
-ghost use Rattle.job.specs.Layout.{slices};
 ghost use Rattle.allocator.specs.Sheet.{printed};
-ghost use Rattle.run_loop.specs.Running.{lentState};
 ghost use Rattle.lines.specs.LineTexts.{lent};
-ghost use Rattle.sheets.specs.Printing.{sheetLimits, sheetSizes};
+ghost use Rattle.sheets.specs.Printing.{shown};
 ghost use Rattle.printer.specs.Writing.{WrittenOf, linesSize};
 use io::write_all;
 use job_sheet::begin;
@@ -80,31 +75,25 @@ fn write_lines(
     }
 }
 
-// Loads and runs the job of these bytes in what is lent, and writes its sheet, or `refused N` alone.
-fn write_with(
+// Writes what is to be printed: the lines from a position on, or `refused N` alone.
+fn write_printing(
     fd: i32,
-    s: &[u8],
-    j64: &mut [u64],
-    j32: &mut [u32],
-    j16: &mut [u16],
-    j8: &mut [u8],
-    jf: &mut [f32],
-    ends: &mut [u64],
-    rests: &mut [u64],
-    queue: &mut [u64],
-    last: &mut [u8],
-    words: &mut [u64],
+    printing: Printing,
+    maps: &[u64],
+    ends: &[u64],
+    rests: &[u64],
+    words: &[u64],
     line: &mut [u8],
 ) -> Written
-    requires { ⌜ (256 ≤ length (now line)) × (shortBuffer sheetLimits (sheetSizes (slices (now j64) (now j32) (now j16) (now j8) (now jf)) (lentState (now ends) (now rests) (now queue) (now last)) (now words)) ≡ false) ⌝ }
-    ensures { λ r. ⌜ WrittenOf (length (printed (now (s .entry)))) r ⌝ }
+    requires { ⌜ 256 ≤ length (now line) ⌝ }
+    ensures { λ r. ⌜ WrittenOf (length (shown printing (lent (now (maps .entry)) (now (ends .entry)) (now (rests .entry))) (now (words .entry)))) r ⌝ }
 {
-    match begin(s, j64, j32, j16, j8, jf, ends, rests, queue, last, words) {
+    match printing {
         Printing::Refused(n) => {
             let size = refused(n, line);
             write_front(fd, line, size)
         }
-        Printing::At(position) => write_lines(fd, position, j64, ends, rests, words, line),
+        Printing::At(position) => write_lines(fd, position, maps, ends, rests, words, line),
     }
 }
 
@@ -124,8 +113,7 @@ pub fn write_sheet(fd: i32, s: &[u8]) -> Written
     let mut last = [0u8; 512];
     let mut words = [0u64; 512];
     let mut line = [0u8; 256];
-    write_with(
-        fd,
+    let printing = begin(
         s,
         &mut j64,
         &mut j32,
@@ -137,6 +125,6 @@ pub fn write_sheet(fd: i32, s: &[u8]) -> Written
         &mut queue,
         &mut last,
         &mut words,
-        &mut line,
-    )
+    );
+    write_printing(fd, printing, &j64, &ends, &rests, &words, &mut line)
 }

@@ -15,13 +15,13 @@ use Rattle.lines.specs.Texts.{Appended}
 use Rattle.listing.specs.declared.Listing.{Listing}
 use Rattle.listing.specs.declared.Step.{Step}
 use Rattle.listing.specs.declared.Step.the-variants.{Line, End as NoMore, Refused as NotListed}
-use Rattle.lines.specs.LineTexts.{Lent, lent}
+use Rattle.lines.specs.LineTexts.{Lent}
 use Rattle.listing.specs.Walk.{lineLimit}
 use Rattle.sheets.specs.declared.Printing.{Printing}
 use Rattle.sheets.specs.declared.Printing.the-variants.{Refused, At}
-use Rattle.sheets.specs.Printing.{shown, LeftToPrint, Begun, NextLine}
+use Rattle.sheets.specs.Printing.{linesLent, shown, LeftToPrint, Begun, NextLine}
 use Rattle.sheets.proofs.CountLaws.{Counted, count-start, count-end, line-front, line-size, count-room, count-more}
-use Rattle.printout.specs.Whole.{linesText, LinesPrinted, Printed}
+use Rattle.printout.specs.Whole.{linesText, LinesPrinted, ShownPrinted, Printed}
 
 -- ---- line by line: the rest from here is the whole
 
@@ -72,28 +72,34 @@ module _ (l : Lent) (words : List ℕ) (c₀ : Listing) (out₀ : List ℕ) wher
             kept = keeps ∙ so .kept;
           }
 
--- ---- the whole
+-- ---- what is to be printed
 
-module _ (bytes : List ℕ) (B : JobSlices) (S : StateBuffers) (W : List ℕ) (B′ : JobSlices) (S′ : StateBuffers) (W′ out out′ : List ℕ) (n : ℕ) (r : Printing) (d : Begun bytes B S W B′ S′ W′ r) where
-  all-printed : n ≡ length (shown r B′ S′ W′) → out′ ≡ sets out 0 (shown r B′ S′ W′) → Printed bytes B S W B′ S′ W′ out out′ n
-  all-printed p q =
-      record {
-        answer = r;
-        begun = d;
-        size = p ∙ ap (λ (x : List ℕ). length x) (d .shows);
-        stored = q ∙ ap (sets out 0) (d .shows);
-        printed-size = λ e. p ∙ ap (λ (x : List ℕ). length x) (d .prints e);
-        printed-stored = λ e. q ∙ ap (sets out 0) (d .prints e);
-      }
-
-  pub refused-printed : (m : ℕ) → r ≡ Refused m → n ≡ length (refusedLine m) → out′ ≡ sets out 0 (refusedLine m) → Printed bytes B S W B′ S′ W′ out out′ n
+module _ (p : Printing) (l : Lent) (words out out′ : List ℕ) (n : ℕ) where
+  pub refused-printed : (m : ℕ) → p ≡ Refused m → n ≡ length (refusedLine m) → out′ ≡ sets out 0 (refusedLine m) → ShownPrinted p l words out out′ n
   unfolding shown
-  refused-printed m told p q =
-      let e : refusedLine m ≡ shown r B′ S′ W′ = sym (ap (λ (x : Printing). shown x B′ S′ W′) told) in
-      all-printed (p ∙ ap (λ (x : List ℕ). length x) e) (q ∙ ap (sets out 0) e)
+  refused-printed m told a b =
+      let e : refusedLine m ≡ shown p l words = sym (ap (λ (x : Printing). shown x l words) told) in
+      record { size = a ∙ ap (λ (x : List ℕ). length x) e; stored = b ∙ ap (sets out 0) e }
 
-  pub lines-printed : (c : Listing) → r ≡ At c → LinesPrinted c (lent (B′ .j64) (S′ .ends) (S′ .rests)) W′ out out′ n → Printed bytes B S W B′ S′ W′ out out′ n
+  pub lines-printed : (c : Listing) → p ≡ At c → LinesPrinted c l words out out′ n → ShownPrinted p l words out out′ n
   unfolding shown
   lines-printed c told k =
-      let e : linesText c (lent (B′ .j64) (S′ .ends) (S′ .rests)) W′ ≡ shown r B′ S′ W′ = sym (ap (λ (x : Printing). shown x B′ S′ W′) told) in
-      all-printed (k .size ∙ ap (λ (x : List ℕ). length x) e) (k .stored ∙ ap (sets out 0) e)
+      let e : linesText c l words ≡ shown p l words = sym (ap (λ (x : Printing). shown x l words) told) in
+      record { size = k .size ∙ ap (λ (x : List ℕ). length x) e; stored = k .stored ∙ ap (sets out 0) e }
+
+-- ---- the whole
+
+pub sheet-printed :
+    (bytes : List ℕ) (B : JobSlices) (S : StateBuffers) (W : List ℕ) (B′ : JobSlices) (S′ : StateBuffers) (W′ out out′ : List ℕ) (n : ℕ) (r : Printing)
+    → Begun bytes B S W B′ S′ W′ r
+    → ShownPrinted r (linesLent B′ S′) W′ out out′ n
+    → Printed bytes B S W B′ S′ W′ out out′ n
+sheet-printed bytes B S W B′ S′ W′ out out′ n r d k =
+    record {
+      answer = r;
+      begun = d;
+      size = k .size ∙ ap (λ (x : List ℕ). length x) (d .shows);
+      stored = k .stored ∙ ap (sets out 0) (d .shows);
+      printed-size = λ e. k .size ∙ ap (λ (x : List ℕ). length x) (d .prints e);
+      printed-stored = λ e. k .stored ∙ ap (sets out 0) (d .prints e);
+    }

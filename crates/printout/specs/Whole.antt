@@ -15,7 +15,7 @@ use Rattle.lines.specs.LineTexts.{Lent}
 use Rattle.listing.specs.Walk.{linesFrom}
 use Rattle.record_words.specs.Words.{recordsIn}
 use Rattle.sheets.specs.declared.Printing.{Printing}
-use Rattle.sheets.specs.Printing.{sheetLimits, sheetSizes, loadedWith, Begun}
+use Rattle.sheets.specs.Printing.{sheetLimits, sheetSizes, loadedWith, shown, Begun}
 
 -- the lines from a position on, one after another
 abbrev pub linesText : Listing → Lent → List ℕ → List ℕ
@@ -25,6 +25,11 @@ linesText c l words = concatMap (λ x. x) (linesFrom c (recordsIn words) l)
 pub record LinesPrinted (c : Listing) (l : Lent) (words out out′ : List ℕ) (n : ℕ) : Type 0 where
   pub size : n ≡ length (linesText c l words)
   pub stored : out′ ≡ sets out 0 (linesText c l words)
+
+-- what is to be printed stands in the buffer, and has n bytes
+pub record ShownPrinted (p : Printing) (l : Lent) (words out out′ : List ℕ) (n : ℕ) : Type 0 where
+  pub size : n ≡ length (shown p l words)
+  pub stored : out′ ≡ sets out 0 (shown p l words)
 
 -- Of any bytes, with B, S and the words W lent: what is printed, and what stands in the buffers afterwards
 pub record Printed (bytes : List ℕ) (B : JobSlices) (S : StateBuffers) (W : List ℕ) (B′ : JobSlices) (S′ : StateBuffers) (W′ out out′ : List ℕ) (n : ℕ) : Type 0 where

@@ -5,7 +5,7 @@ ghost use Rattle.job.specs.Layout.{slices};
 ghost use Rattle.run_loop.specs.Running.{lentState};
 ghost use Rattle.lines.specs.Texts.{Appended};
 ghost use Rattle.lines.specs.LineTexts.{lent};
-ghost use Rattle.printout.specs.Whole.{LinesPrinted, Printed};
+ghost use Rattle.printout.specs.Whole.{LinesPrinted, ShownPrinted, Printed};
 use job_sheet::begin;
 use lent::at8;
 use lent::part8;
@@ -57,19 +57,24 @@ fn print_from(
     }
 }
 
-// The same with a line of its own.
-fn print_lines(
-    position: Listing,
+// Stores what is to be printed, the lines from a position on or `refused N` alone, and gives how many bytes that has.
+fn print_shown(
+    printing: Printing,
     maps: &[u64],
     ends: &[u64],
     rests: &[u64],
     words: &[u64],
     out: &mut [u8],
 ) -> usize
-    ensures { λ r. ⌜ LinesPrinted position (lent (now (maps .entry)) (now (ends .entry)) (now (rests .entry))) (now (words .entry)) (now (out .entry)) (now (out .exit)) r ⌝ }
+    ensures { λ r. ⌜ ShownPrinted printing (lent (now (maps .entry)) (now (ends .entry)) (now (rests .entry))) (now (words .entry)) (now (out .entry)) (now (out .exit)) r ⌝ }
 {
-    let mut line = [0u8; 256];
-    print_from(position, maps, ends, rests, words, &mut line, out)
+    match printing {
+        Printing::Refused(n) => refused(n, out),
+        Printing::At(position) => {
+            let mut line = [0u8; 256];
+            print_from(position, maps, ends, rests, words, &mut line, out)
+        }
+    }
 }
 
 // Loads the job of these bytes, runs it with its budget and stores what is printed for it from the front of `out`: its sheet, or `refused N` alone. The
@@ -90,8 +95,6 @@ pub fn print(
 ) -> usize
     ensures { λ r. ⌜ Printed (now (s .entry)) (slices (now (j64 .entry)) (now (j32 .entry)) (now (j16 .entry)) (now (j8 .entry)) (now (jf .entry))) (lentState (now (ends .entry)) (now (rests .entry)) (now (queue .entry)) (now (last .entry))) (now (words .entry)) (slices (now (j64 .exit)) (now (j32 .exit)) (now (j16 .exit)) (now (j8 .exit)) (now (jf .exit))) (lentState (now (ends .exit)) (now (rests .exit)) (now (queue .exit)) (now (last .exit))) (now (words .exit)) (now (out .entry)) (now (out .exit)) r ⌝ }
 {
-    match begin(s, j64, j32, j16, j8, jf, ends, rests, queue, last, words) {
-        Printing::Refused(n) => refused(n, out),
-        Printing::At(position) => print_lines(position, j64, ends, rests, words, out),
-    }
+    let printing = begin(s, j64, j32, j16, j8, jf, ends, rests, queue, last, words);
+    print_shown(printing, j64, ends, rests, words, out)
 }

@@ -12,46 +12,6 @@ fn print_refused(line: &mut [u8], n: u8) {
     print(line, length);
 }
 
-// Loads the job of these bytes into what is lent, and makes the calls on it. A refused job prints its refusal alone. Answers whether the script was
-// good.
-fn load_and_call(
-    bytes: &[u8],
-    left: &mut u64,
-    j64: &mut [u64],
-    j32: &mut [u32],
-    j16: &mut [u16],
-    j8: &mut [u8],
-    jf: &mut [f32],
-    ends: &mut [u64],
-    rests: &mut [u64],
-    queue: &mut [u64],
-    last: &mut [u8],
-    line: &mut [u8],
-) -> bool
-    ensures { λ r. ⌜ now (left .exit) ≤ now (left .entry) ⌝ }
-{
-    match load(bytes, j64, j32, j16, j8, jf, ends, rests, queue, last) {
-        JobLoaded::Refused(n) => {
-            print_refused(line, n);
-            true
-        }
-        JobLoaded::Is(header) => make_calls(
-            header,
-            left,
-            j64,
-            j32,
-            j16,
-            j8,
-            jf,
-            ends,
-            rests,
-            queue,
-            last,
-            line,
-        ),
-    }
-}
-
 // Loads the job of these bytes into buffers of its own, and makes the calls of a script on it, of which `left` bytes are left. A refused job prints its
 // refusal alone. Answers whether the script was good; what is left of it never grows.
 pub fn run_job(bytes: &[u8], left: &mut u64, line: &mut [u8]) -> bool
@@ -66,9 +26,8 @@ pub fn run_job(bytes: &[u8], left: &mut u64, line: &mut [u8]) -> bool
     let mut rests = [0u64; 2560];
     let mut queue = [0u64; 1024];
     let mut last = [0u8; 512];
-    load_and_call(
+    let loaded = load(
         bytes,
-        left,
         &mut j64,
         &mut j32,
         &mut j16,
@@ -78,6 +37,25 @@ pub fn run_job(bytes: &[u8], left: &mut u64, line: &mut [u8]) -> bool
         &mut rests,
         &mut queue,
         &mut last,
-        line,
-    )
+    );
+    match loaded {
+        JobLoaded::Refused(n) => {
+            print_refused(line, n);
+            true
+        }
+        JobLoaded::Is(header) => make_calls(
+            header,
+            left,
+            &j64,
+            &j32,
+            &j16,
+            &j8,
+            &jf,
+            &mut ends,
+            &mut rests,
+            &mut queue,
+            &mut last,
+            line,
+        ),
+    }
 }

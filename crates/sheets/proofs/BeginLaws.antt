@@ -33,14 +33,13 @@ use Rattle.stage_loader.specs.StageLoading.{laterState, laterJob, StageLoadPart
 use Rattle.records.specs.Fields.{firstRecords}
 use Rattle.stage_loader.proofs.StageLoads.{append-short, behindState, laid-state, laid-job, same-header, records-first}
 use Rattle.listing.specs.declared.Listing.{Listing}
-use Rattle.lines.specs.LineTexts.{lent}
 use Rattle.listing.proofs.SheetLaws.{Laid, reached-sheet}
 use Rattle.record_words.specs.Words.{recordWord, recordsIn, AllPlain, WordsOf}
 use Rattle.record_words.proofs.WordLaws.{tail-kept, in-front, front-words}
 use Rattle.record_words.proofs.PlainRecords.{plain-records, records-length}
 use Rattle.sheets.specs.declared.Printing.{Printing}
 use Rattle.sheets.specs.declared.Printing.the-variants.{Refused, At}
-use Rattle.sheets.specs.Printing.{sheetLimits, sheetSizes, loadedWith, ranOf, stateIn, recordsOn, startOf, shown, BegunParts, Begun, RunStored}
+use Rattle.sheets.specs.Printing.{sheetLimits, sheetSizes, loadedWith, ranOf, stateIn, recordsOn, startOf, linesLent, shown, BegunParts, Begun, RunStored}
 
 -- ---- a run whose records stand in the words
 
@@ -97,10 +96,10 @@ module _ (bytes : List ℕ) (B : JobSlices) (S : StateBuffers) (W : List ℕ) wh
       (B′ : JobSlices) (S′ : StateBuffers) (W′ : List ℕ) (r : Printing) (o : Loaded)
       → loadedWith B S W bytes ≡ o
       → BegunParts B S W B′ S′ W′ r o
-      → shown r B′ S′ W′ ≡ sheetOf o
+      → shown r (linesLent B′ S′) W′ ≡ sheetOf o
       → Begun bytes B S W B′ S′ W′ r
   begun B′ S′ W′ r o e p q =
-      let shows : shown r B′ S′ W′ ≡ sheetOf (loadedWith B S W bytes) = q ∙ ap sheetOf (sym e) in
+      let shows : shown r (linesLent B′ S′) W′ ≡ sheetOf (loadedWith B S W bytes) = q ∙ ap sheetOf (sym e) in
       record { parts = subst (BegunParts B S W B′ S′ W′ r) (sym e) p; shows = shows; prints = λ k. shows ∙ all-printed k }
 
   pub short-begin : length W < 512 → Begun bytes B S W B S W (Refused 15)
@@ -190,7 +189,7 @@ module _ (bytes : List ℕ) (B : JobSlices) (S : StateBuffers) (W : List ℕ) wh
           sym (take-append-drop 512 W′) ∙ ap (λ (l : List ℕ). l ++ drop 512 W′) (ran-so .1 .words-are)
           ∙ ap (λ (l : List ℕ). map recordWord (records (ranOf j .state)) ++ l) (d .behind room)
 
-      laid : Laid j (ranOf j .state) (recordsIn W′) (lent (B₁ .j64) (S′ .ends) (S′ .rests))
+      laid : Laid j (ranOf j .state) (recordsIn W′) (linesLent B₁ S′)
       laid =
           let n : length (take 512 W′) ≡ 512 = ap length (ran-so .1 .words-are) ∙ length-map (records (ranOf j .state)) recordWord ∙ records-length (ranOf j .state) in
           record {
@@ -207,8 +206,8 @@ module _ (bytes : List ℕ) (B : JobSlices) (S : StateBuffers) (W : List ℕ) wh
       unfolding shown
       loaded-begun =
           begun B₁ S′ W′ (At c) (loaded j) (same-load room ∙ loads) (ap At start-is, job-is, stands-so, stored-so)
-          (ap (λ (x : Listing). shown (At x) B₁ S′ W′) start-is
-          ∙ reached-sheet j (ranOf j .state) reach-after (recordsIn W′) (lent (B₁ .j64) (S′ .ends) (S′ .rests)) laid (ranOf j .ending) (ranOf j .dequeues))
+          (ap (λ (x : Listing). shown (At x) (linesLent B₁ S′) W′) start-is
+          ∙ reached-sheet j (ranOf j .state) reach-after (recordsIn W′) (linesLent B₁ S′) laid (ranOf j .ending) (ranOf j .dequeues))
 
   pub loaded-begin :
       512 ≤ length W

@@ -73,14 +73,14 @@ startOf h ending dequeues = record { ending = ending; dequeues = dequeues; heade
 
 -- ---- the lines
 
--- the lines from a position on, over what is lent
-abbrev pub linesOver : Listing → JobSlices → StateBuffers → List ℕ → List (List ℕ)
-linesOver c B S words = linesFrom c (recordsIn words) (lent (B .j64) (S .ends) (S .rests))
+-- what of the buffers the lines are read from, beside the records
+abbrev pub linesLent : JobSlices → StateBuffers → Lent
+linesLent B S = lent (B .j64) (S .ends) (S .rests)
 
 -- 01, "The printed sheet": what is printed for an answer: "A refusal prints `refused N` alone", or the lines one after another
-unfoldable pub shown : Printing → JobSlices → StateBuffers → List ℕ → List ℕ
-shown (Refused n) B S words = refusedLine n
-shown (At c) B S words = concatMap (λ x. x) (linesOver c B S words)
+unfoldable pub shown : Printing → Lent → List ℕ → List ℕ
+shown (Refused n) l words = refusedLine n
+shown (At c) l words = concatMap (λ x. x) (linesFrom c (recordsIn words) l)
 
 -- ---- the contracts
 
@@ -96,8 +96,8 @@ BegunParts B S W B′ S′ W′ r (loaded j) =
 -- the answered position are together the sheet, which is the printed one where no buffer is short.
 pub record Begun (bytes : List ℕ) (B : JobSlices) (S : StateBuffers) (W : List ℕ) (B′ : JobSlices) (S′ : StateBuffers) (W′ : List ℕ) (r : Printing) : Type 0 where
   pub parts : BegunParts B S W B′ S′ W′ r (loadedWith B S W bytes)
-  pub shows : shown r B′ S′ W′ ≡ sheetOf (loadedWith B S W bytes)
-  pub prints : shortBuffer sheetLimits (sheetSizes B S W) ≡ false → shown r B′ S′ W′ ≡ printed bytes
+  pub shows : shown r (linesLent B′ S′) W′ ≡ sheetOf (loadedWith B S W bytes)
+  pub prints : shortBuffer sheetLimits (sheetSizes B S W) ≡ false → shown r (linesLent B′ S′) W′ ≡ printed bytes
 
 -- A run of what was loaded, with the job's budget, whose records stand in the first 512 words: first those that a job starts out with, and then the
 -- run's. The answer is the position before the first line.
