@@ -1,73 +1,28 @@
 // The lines of the sheet (01, "The printed sheet"), each stored from the front of a lent line. What a line has no room for is not stored. Which line
 // is next, the crate listing says.
 ghost use mathlib.Core.Path.{_≡_};
-ghost use mathlib.Core.List.{[], _∷_};
+ghost use mathlib.Core.List.{[]};
 ghost use mathlib.Core.Bool.{cond};
-ghost use Prim.Native.Nat.{_+_, _≤_, _<_};
-ghost use lib.ListN.{length};
+ghost use Prim.Native.Nat.{_<_};
 ghost use Rattle.reg_matrix.specs.Lines.{number as decimal, sp, refusedLine, indexText, reservationText, entryLine};
 ghost use Rattle.allocator.specs.Sheet.{endWord, endLine, standing as standingOf};
-ghost use Rattle.lines.specs.Texts.{Appended};
+ghost use Rattle.texts.specs.Texts.{Stored};
 ghost use Rattle.lines.specs.LineTexts.{lent, standingText, isRegisterUnit, isFree, isSpare, spareText};
 use allocator::Assignment;
 use allocator::Ending;
 use lent::at;
-use lent::at8;
-use lent::put8;
 use reg_matrix::Entry;
 use reg_matrix::FixedIndex;
 use reg_matrix::Reservation;
+use texts::byte;
+use texts::number;
+use texts::spaced;
+use texts::text;
 use unit_free::UnitFree;
 use unit_free::is_unit_free;
 
-// Stores a text from place `at` on, and gives the place after it.
-fn text(line: &mut [u8], at: usize, bytes: &[u8]) -> usize
-    requires { ⌜ at + length (now bytes) < 4096 ⌝ }
-    ensures { λ r. ⌜ Appended (now (line .entry)) at (now (bytes .entry)) (now (line .exit)) r ⌝ }
-{
-    let mut i = 0;
-    while i < bytes.len() {
-        put8(line, at + i, at8(bytes, i));
-        i += 1;
-    }
-    at + i
-}
-
-// The same of one byte.
-fn byte(line: &mut [u8], at: usize, b: u8) -> usize
-    requires { ⌜ at < 4096 ⌝ }
-    ensures { λ r. ⌜ Appended (now (line .entry)) at (b ∷ []) (now (line .exit)) r ⌝ }
-{
-    put8(line, at, b);
-    at + 1
-}
-
-// The same of a number's decimal digits.
-fn number(line: &mut [u8], at: usize, n: u64) -> usize
-    requires { ⌜ at < 2048 ⌝ }
-    ensures { λ r. ⌜ Appended (now (line .entry)) at (decimal n) (now (line .exit)) r × (r ≤ at + 20) ⌝ }
-{
-    // 48 is the digit 0
-    let last = (48 + n % 10) as u8;
-    if n < 10 {
-        return byte(line, at, last);
-    }
-    let next = number(line, at, n / 10);
-    byte(line, next, last)
-}
-
-// The same of a space and a number.
-fn spaced(line: &mut [u8], at: usize, n: u64) -> usize
-    requires { ⌜ at < 2000 ⌝ }
-    ensures { λ r. ⌜ Appended (now (line .entry)) at (sp (decimal n)) (now (line .exit)) r × (r ≤ at + 21) ⌝ }
-{
-    let next = byte(line, at, b' ');
-    number(line, next, n)
-}
-
 fn end_word(line: &mut [u8], at: usize, ending: Ending) -> usize
-    requires { ⌜ at < 1000 ⌝ }
-    ensures { λ r. ⌜ Appended (now (line .entry)) at (endWord ending) (now (line .exit)) r × (r ≤ at + 7) ⌝ }
+    ensures { λ r. ⌜ Stored (now (line .entry)) at (endWord ending) (now (line .exit)) r ⌝ }
 {
     match ending {
         Ending::Done => text(line, at, b"done"),
@@ -78,7 +33,7 @@ fn end_word(line: &mut [u8], at: usize, ending: Ending) -> usize
 
 // `end WORD DEQUEUES`.
 pub fn end_line(line: &mut [u8], ending: Ending, dequeues: u64) -> usize
-    ensures { λ r. ⌜ Appended (now (line .entry)) 0 (endLine ending dequeues) (now (line .exit)) r ⌝ }
+    ensures { λ r. ⌜ Stored (now (line .entry)) 0 (endLine ending dequeues) (now (line .exit)) r ⌝ }
 {
     let a = text(line, 0, b"end ");
     let b = end_word(line, a, ending);
@@ -88,7 +43,7 @@ pub fn end_line(line: &mut [u8], ending: Ending, dequeues: u64) -> usize
 
 // `refused N`.
 pub fn refused_line(line: &mut [u8], n: u8) -> usize
-    ensures { λ r. ⌜ Appended (now (line .entry)) 0 (refusedLine n) (now (line .exit)) r ⌝ }
+    ensures { λ r. ⌜ Stored (now (line .entry)) 0 (refusedLine n) (now (line .exit)) r ⌝ }
 {
     let a = text(line, 0, b"refused ");
     let b = number(line, a, n as u64);
@@ -96,8 +51,7 @@ pub fn refused_line(line: &mut [u8], n: u8) -> usize
 }
 
 fn standing(line: &mut [u8], at: usize, assignment: Assignment) -> usize
-    requires { ⌜ at < 1000 ⌝ }
-    ensures { λ r. ⌜ Appended (now (line .entry)) at (standingOf assignment) (now (line .exit)) r × (r ≤ at + 25) ⌝ }
+    ensures { λ r. ⌜ Stored (now (line .entry)) at (standingOf assignment) (now (line .exit)) r ⌝ }
 {
     match assignment {
         Assignment::Assigned {
@@ -117,7 +71,7 @@ fn standing(line: &mut [u8], at: usize, assignment: Assignment) -> usize
 
 // `v N reg R`, `v N left` or `v N wait`.
 pub fn standing_line(line: &mut [u8], v: u16, assignment: Assignment) -> usize
-    ensures { λ r. ⌜ Appended (now (line .entry)) 0 (standingText v assignment) (now (line .exit)) r ⌝ }
+    ensures { λ r. ⌜ Stored (now (line .entry)) 0 (standingText v assignment) (now (line .exit)) r ⌝ }
 {
     let a = text(line, 0, b"v ");
     let b = number(line, a, v as u64);
@@ -126,8 +80,7 @@ pub fn standing_line(line: &mut [u8], v: u16, assignment: Assignment) -> usize
 }
 
 fn index(line: &mut [u8], at: usize, i: FixedIndex) -> usize
-    requires { ⌜ at < 1000 ⌝ }
-    ensures { λ r. ⌜ Appended (now (line .entry)) at (sp (indexText i)) (now (line .exit)) r × (r ≤ at + 21) ⌝ }
+    ensures { λ r. ⌜ Stored (now (line .entry)) at (sp (indexText i)) (now (line .exit)) r ⌝ }
 {
     match i {
         FixedIndex::NoIndex => text(line, at, b" -"),
@@ -136,8 +89,7 @@ fn index(line: &mut [u8], at: usize, i: FixedIndex) -> usize
 }
 
 fn reservation(line: &mut [u8], at: usize, held: Reservation) -> usize
-    requires { ⌜ at < 500 ⌝ }
-    ensures { λ r. ⌜ Appended (now (line .entry)) at (reservationText held) (now (line .exit)) r × (r ≤ at + 47) ⌝ }
+    ensures { λ r. ⌜ Stored (now (line .entry)) at (reservationText held) (now (line .exit)) r ⌝ }
 {
     match held {
         Reservation::Held(v, i) => {
@@ -155,7 +107,7 @@ fn reservation(line: &mut [u8], at: usize, held: Reservation) -> usize
 
 // `u U FROM TO held N I`, `u U FROM TO use V` or `u U FROM TO def`.
 pub fn entry_line(line: &mut [u8], entry: Entry) -> usize
-    ensures { λ r. ⌜ Appended (now (line .entry)) 0 (entryLine entry) (now (line .exit)) r ⌝ }
+    ensures { λ r. ⌜ Stored (now (line .entry)) 0 (entryLine entry) (now (line .exit)) r ⌝ }
 {
     let a = text(line, 0, b"u ");
     let b = number(line, a, entry.unit as u64);
@@ -214,8 +166,7 @@ fn is_free_register_unit(
 
 // A unit of the spare line, where it is spare.
 fn free_unit(line: &mut [u8], at: usize, unit: u8, spare: bool) -> usize
-    requires { ⌜ (at < 2000) × (unit < 64) ⌝ }
-    ensures { λ r. ⌜ Appended (now (line .entry)) at (cond spare (sp (decimal unit)) []) (now (line .exit)) r × (r ≤ at + 3) ⌝ }
+    ensures { λ r. ⌜ Stored (now (line .entry)) at (cond spare (sp (decimal unit)) []) (now (line .exit)) r ⌝ }
 {
     if spare {
         return spaced(line, at, unit as u64);
@@ -233,7 +184,7 @@ pub fn free_units_line(
     from: u32,
     to: u32,
 ) -> usize
-    ensures { λ r. ⌜ Appended (now (line .entry)) 0 (spareText (lent (now (maps .entry)) (now (ends .entry)) (now (rests .entry))) regs from to) (now (line .exit)) r ⌝ }
+    ensures { λ r. ⌜ Stored (now (line .entry)) 0 (spareText (lent (now (maps .entry)) (now (ends .entry)) (now (rests .entry))) regs from to) (now (line .exit)) r ⌝ }
 {
     let mut at = text(line, 0, b"spare");
     let mut unit: u8 = 0;

@@ -31,7 +31,7 @@ use Rattle.listing.specs.declared.Place.the-variants.{Head, VirtReg, Ent
 use Rattle.listing.specs.declared.Listing.{Listing}
 use Rattle.listing.specs.declared.Step.{Step}
 use Rattle.listing.specs.declared.Step.the-variants.{Line, Refused, End as NoMore}
-use Rattle.lines.proofs.TextLaws.{number-length, number-short}
+use Rattle.texts.proofs.Digits.{number-length, number-short}
 use Rattle.lines.specs.LineTexts.{Lent, standingText, isSpare, unitsText, spareText}
 use Rattle.listing.specs.Walk.{numberAt, lineLimit, Found, noMore, aLine, isEntry, entryAt, spareFound, entryFound, virtRegFound, foundAt, found, moved, stepOf, printedOn, AnsweredIfLong, recordAt, spareLines, entryLines, virtRegLines, linesAt, linesFrom, linesOf}
 
@@ -117,7 +117,7 @@ refused-room n =
 pub refused-front : (s : List ℕ) (n : ℕ) → lineLimit ≤ length s → take (length (refusedLine n)) (sets s 0 (refusedLine n)) ≡ refusedLine n
 refused-front s n h = front s (refusedLine n) (omega (arith, h, refused-room n))
 
-end-room : (w : Ending) (n : ℕ) → length (endLine w n) ≤ 256
+pub end-room : (w : Ending) (n : ℕ) → length (endLine w n) ≤ lineLimit
 unfolding ascii
 end-room w n =
     omega (
@@ -131,7 +131,7 @@ end-room w n =
     word Spent = omega arith
     word TooMany = omega arith
 
-standing-room : (v : ℕ) (a : Assignment) → length (standingText v a) ≤ 256
+pub standing-room : (v : ℕ) (a : Assignment) → length (standingText v a) ≤ lineLimit
 unfolding ascii standingText
 standing-room v a =
     omega (
@@ -145,7 +145,7 @@ standing-room v a =
     stands (Unassigned f) = omega arith
     stands Dead = omega arith
 
-entry-room : (e : Entry) → length (entryLine e) ≤ 256
+pub entry-room : (e : Entry) → length (entryLine e) ≤ lineLimit
 unfolding ascii entryLine reservationText
 entry-room e =
     let a = most (ascii "u ") (number (e .unit)) 2 20 (omega arith) (number-length (e .unit)) in
@@ -178,7 +178,7 @@ units-most p (suc n) u h = go (p u) (units-most p n (suc u) (omega arith))
         )
     go false k = omega (arith, k)
 
-spare-room : (l : Lent) (n from to : ℕ) → length (spareText l n from to) ≤ 256
+pub spare-room : (l : Lent) (n from to : ℕ) → length (spareText l n from to) ≤ lineLimit
 unfolding ascii spareText unitsText
 spare-room l n from to =
     let units = concatMap (λ u. sp (number u)) (filter (isSpare l n from to) (count 0 64)) in

@@ -1,5 +1,6 @@
 -- A line that is stored, as the walk answers it. Assumes nothing.
-use Prim.Native.Nat.{ℕ}
+use Prim.Native.Nat.{ℕ, _≤_}
+use native.Mathlib.Omega.{arith}
 use native.Mathlib.Nat.{zero-add}
 use mathlib.Core.Path.{_≡_, sym, ap, subst}
 use mathlib.Core.List.{List}
@@ -11,16 +12,19 @@ use Rattle.listing.specs.declared.Place.{Place}
 use Rattle.listing.specs.declared.Listing.{Listing}
 use Rattle.listing.specs.declared.Step.{Step}
 use Rattle.listing.specs.declared.Step.the-variants.{Line}
-use Rattle.lines.specs.Texts.{Appended}
+use Rattle.texts.specs.Texts.{Stored}
+use Rattle.texts.proofs.StoreLaws.{room-place}
 use Rattle.lines.specs.LineTexts.{Lent}
-use Rattle.listing.specs.Walk.{Found, aLine, spareFound, foundAt, found, moved, Answered}
+use Rattle.listing.specs.Walk.{lineLimit, Found, aLine, spareFound, foundAt, found, moved, Answered}
 
 pub told :
     (c : Listing) {s t text : List ℕ} {n : ℕ} {m : Listing} {p : Place}
-    → Appended s 0 text t n
+    → Stored s 0 text t n
+    → length text ≤ lineLimit
+    → lineLimit ≤ length s
     → m ≡ moved c p
     → Answered c (aLine text p) s t (Line n m)
-told c {s} {t} {text} {n} {m} {p} a e = (rw (e, a .place, zero-add (length text)), a .line)
+told c {s} {t} {text} {n} {m} {p} a short long e = (rw (e, room-place a (omega (arith, short, long)), zero-add (length text)), a .line)
 
 -- the answer for what was found by another name
 pub by :

@@ -1,10 +1,10 @@
 // A walk through the sheet that carries its position by value from line to line (01, "The printed sheet").
 ghost use mathlib.Core.Path.{_≡_};
-ghost use Prim.Native.Nat.{_<_};
+ghost use Prim.Native.Nat.{_≤_, _<_};
 ghost use lib.ListN.{length};
-ghost use lib.Seq.{sets};
 ghost use Rattle.reg_matrix.specs.Lines.{refusedLine};
 ghost use Rattle.listing.specs.declared.Place.the-variants.{Head};
+ghost use Rattle.texts.specs.Texts.{Stored};
 ghost use Rattle.lines.specs.LineTexts.{lent};
 ghost use Rattle.listing.specs.Walk.{spareFound, entryFound, virtRegFound, found, moved as movedTo, Answered, AnsweredIfLong, numberAt};
 use crate::Listing;
@@ -17,9 +17,9 @@ use job::Probe;
 use lent::at;
 use table_words::words::entry_of;
 
-// The line `refused N` into a lent line, with its length. A line of 256 bytes has room for it; what there is no room for is not stored.
+// The line `refused N` into a lent line, with its length where there is room for it, as in one of 256 bytes. What there is no room for is not stored.
 pub fn refused(n: u8, line: &mut [u8]) -> usize
-    ensures { λ r. ⌜ (r ≡ length (refusedLine n)) × (now (line .exit) ≡ sets (now (line .entry)) 0 (refusedLine n)) ⌝ }
+    ensures { λ r. ⌜ Stored (now (line .entry)) 0 (refusedLine n) (now (line .exit)) r ⌝ }
 {
     lines::refused_line(line, n)
 }
@@ -69,6 +69,7 @@ impl Listing {
     }
 
     fn next_free_units(self, maps: &[u64], ends: &[u64], rests: &[u64], line: &mut [u8]) -> Step
+        requires { ⌜ 256 ≤ length (now line) ⌝ }
         ensures { λ r. ⌜ Answered self (spareFound (self .header .probe) (self .header .regs) (lent (now (maps .entry)) (now (ends .entry)) (now (rests .entry)))) (now (line .entry)) (now (line .exit)) r ⌝ }
     {
         let header = self.header;
@@ -90,6 +91,7 @@ impl Listing {
         rests: &[u64],
         line: &mut [u8],
     ) -> Step
+        requires { ⌜ 256 ≤ length (now line) ⌝ }
         ensures { λ r. ⌜ Answered self (entryFound i (self .header) (lent (now (maps .entry)) (now (ends .entry)) (now (rests .entry)))) (now (line .entry)) (now (line .exit)) r ⌝ }
     {
         if 2560 <= i {
@@ -112,6 +114,7 @@ impl Listing {
         rests: &[u64],
         line: &mut [u8],
     ) -> Step
+        requires { ⌜ 256 ≤ length (now line) ⌝ }
         ensures { λ r. ⌜ Answered self (virtRegFound v assignment (self .header) (lent (now (maps .entry)) (now (ends .entry)) (now (rests .entry)))) (now (line .entry)) (now (line .exit)) r ⌝ }
     {
         let header = self.header;
@@ -130,6 +133,7 @@ impl Listing {
         rests: &[u64],
         line: &mut [u8],
     ) -> Step
+        requires { ⌜ 256 ≤ length (now line) ⌝ }
         ensures { λ r. ⌜ Answered self (found self assignment (lent (now (maps .entry)) (now (ends .entry)) (now (rests .entry)))) (now (line .entry)) (now (line .exit)) r ⌝ }
     {
         let place = self.place;

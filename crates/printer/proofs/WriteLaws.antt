@@ -5,8 +5,7 @@ use mathlib.Core.Path.{_≡_, sym, ap, _∙_, subst}
 use mathlib.Core.List.{List}
 use mathlib.Core.Bool.{Bool, true, false, not}
 use lib.Dec.{T}
-use lib.ListN.{length, take}
-use lib.Seq.{sets, length-sets}
+use lib.ListN.{length}
 use borrow.Author.Tests.{not-false}
 use Rattle.lent.specs.Parts.{part}
 use Rattle.reg_matrix.specs.Lines.{refusedLine}
@@ -18,12 +17,12 @@ use Rattle.listing.specs.declared.Listing.{Listing}
 use Rattle.listing.specs.declared.Step.{Step}
 use Rattle.listing.specs.declared.Step.the-variants.{Line, End as NoMore}
 use Rattle.listing.specs.Walk.{lineLimit}
-use Rattle.listing.proofs.LineLaws.{refused-room, refused-front}
+use Rattle.texts.specs.Texts.{Stored}
 use Rattle.lines.specs.LineTexts.{Lent}
 use Rattle.sheets.specs.declared.Printing.{Printing}
 use Rattle.sheets.specs.declared.Printing.the-variants.{Refused, At}
 use Rattle.sheets.specs.Printing.{sheetLimits, sheetSizes, linesLent, shown, Begun, NextLine}
-use Rattle.sheets.proofs.CountLaws.{front-part, Counted, count-end, line-size, count-room, count-more}
+use Rattle.sheets.proofs.CountLaws.{refused-part, Counted, count-end, line-size, count-room, count-more}
 use Rattle.printer.specs.declared.Written.{Written}
 use Rattle.printer.specs.Writing.{WrittenOf, linesSize}
 
@@ -63,15 +62,12 @@ module _ (p : Printing) (l : Lent) (words : List ℕ) (w : Written) where
       → p ≡ Refused m
       → (s t : List ℕ) (k : ℕ)
       → lineLimit ≤ length s
-      → k ≡ length (refusedLine m)
-      → t ≡ sets s 0 (refusedLine m)
+      → Stored s 0 (refusedLine m) t k
       → WrittenOf (length (part 0 k t)) w
       → WrittenOf (length (shown p l words)) w
   unfolding shown
-  refusal-written m told s t k long size stored =
-      let h : k ≤ length t = omega (arith, size, refused-room m, long, ap (λ (x : List ℕ). length x) stored, length-sets s 0 (refusedLine m)) in
-      let e : part 0 k t ≡ refusedLine m =
-      front-part k t h ∙ ap (λ (i : ℕ). take i t) size ∙ ap (take (length (refusedLine m))) stored ∙ refused-front s m long in
+  refusal-written m told s t k long stored =
+      let e : part 0 k t ≡ refusedLine m = refused-part m s t k long stored in
       subst (λ (x : List ℕ). WrittenOf (length x) w) (e ∙ sym (ap (λ (x : Printing). shown x l words) told))
 
   pub lines-written : (c : Listing) → p ≡ At c → WrittenOf (linesSize c l words) w → WrittenOf (length (shown p l words)) w

@@ -1,27 +1,40 @@
 -- Lines that are stored one after another are together the printed sheet. Assumes nothing.
-use Prim.Native.Nat.{ℕ, _+_, _≤_, _<_}
+use Prim.Native.Nat.{ℕ, suc, _+_, _≤_, _<_}
 use native.Mathlib.Omega.{arith}
+use native.Mathlib.Nat.{zero-add}
 use mathlib.Core.Path.{_≡_, refl, sym, ap, _∙_, subst}
 use mathlib.Core.List.{List, [], _++_}
-use lib.ListN.{length}
-use lib.Seq.{sets}
+use native.Mathlib.Numerals.{add-one}
+use lib.ListN.{length, getD, set, drop}
+use lib.Seq.{sets, drop-cons, drop-length}
 use Rattle.lent.specs.Parts.{part}
 use Rattle.reg_matrix.specs.Lists.{concatMap}
 use Rattle.reg_matrix.specs.Lines.{refusedLine}
 use Rattle.job.specs.Layout.{JobSlices}
 use Rattle.allocator.specs.Layout.{StateBuffers}
 use Rattle.lent.proofs.Laws.{sets-append}
-use Rattle.lines.specs.Texts.{Appended}
 use Rattle.listing.specs.declared.Listing.{Listing}
 use Rattle.listing.specs.declared.Step.{Step}
 use Rattle.listing.specs.declared.Step.the-variants.{Line, End as NoMore, Refused as NotListed}
+use Rattle.texts.specs.Texts.{Stored}
 use Rattle.lines.specs.LineTexts.{Lent}
 use Rattle.listing.specs.Walk.{lineLimit}
+use Rattle.listing.proofs.LineLaws.{refused-room}
 use Rattle.sheets.specs.declared.Printing.{Printing}
 use Rattle.sheets.specs.declared.Printing.the-variants.{Refused, At}
 use Rattle.sheets.specs.Printing.{linesLent, shown, LeftToPrint, Begun, NextLine}
-use Rattle.sheets.proofs.CountLaws.{Counted, count-start, count-end, line-front, line-size, count-room, count-more}
-use Rattle.printout.specs.Whole.{linesText, LinesPrinted, ShownPrinted, Printed}
+use Rattle.sheets.proofs.CountLaws.{refused-part, Counted, count-start, count-end, line-front, line-size, count-room, count-more}
+use Rattle.printout.specs.Whole.{Appended, linesText, LinesPrinted, ShownPrinted, Printed}
+
+-- ---- a text byte by byte: the rest from here is the whole
+
+pub text-more : (s text : List ℕ) (at i : ℕ) → i < length text → sets (set s (at + i) (getD text i 0)) (at + (i + 1)) (drop (i + 1) text) ≡ sets s (at + i) (drop i text)
+text-more s text at i h =
+    let e : at + (i + 1) ≡ suc (at + i) = omega arith in
+    rw (drop-cons text i 0 h, e, add-one i)
+
+pub text-end : (s text : List ℕ) (at i : ℕ) → length text ≤ i → i ≤ length text → sets s (at + i) (drop i text) ≡ s
+text-end s text at i h k = let e : i ≡ length text = omega arith in rw (e, drop-length text)
 
 -- ---- line by line: the rest from here is the whole
 
@@ -74,12 +87,33 @@ module _ (l : Lent) (words : List ℕ) (c₀ : Listing) (out₀ : List ℕ) wher
 
 -- ---- what is to be printed
 
+-- a refusal's line is short
+pub refused-small :
+    (m : ℕ) (s t : List ℕ) (k : ℕ)
+    → lineLimit ≤ length s
+    → Stored s 0 (refusedLine m) t k
+    → (bytes : List ℕ)
+    → bytes ≡ part 0 k t
+    → 0 + length bytes < 4294967296
+refused-small m s t k long stored bytes is =
+    omega (arith, ap (λ (x : List ℕ). length x) (is ∙ refused-part m s t k long stored), refused-room m)
+
 module _ (p : Printing) (l : Lent) (words out out′ : List ℕ) (n : ℕ) where
-  pub refused-printed : (m : ℕ) → p ≡ Refused m → n ≡ length (refusedLine m) → out′ ≡ sets out 0 (refusedLine m) → ShownPrinted p l words out out′ n
+  -- a refusal's line, from a lent line
+  pub refused-printed :
+      (m : ℕ)
+      → p ≡ Refused m
+      → (s t : List ℕ) (k : ℕ)
+      → lineLimit ≤ length s
+      → Stored s 0 (refusedLine m) t k
+      → (bytes : List ℕ)
+      → bytes ≡ part 0 k t
+      → Appended out 0 bytes out′ n
+      → ShownPrinted p l words out out′ n
   unfolding shown
-  refused-printed m told a b =
-      let e : refusedLine m ≡ shown p l words = sym (ap (λ (x : Printing). shown x l words) told) in
-      record { size = a ∙ ap (λ (x : List ℕ). length x) e; stored = b ∙ ap (sets out 0) e }
+  refused-printed m told s t k long stored bytes is a =
+      let e : bytes ≡ shown p l words = is ∙ refused-part m s t k long stored ∙ sym (ap (λ (x : Printing). shown x l words) told) in
+      record { size = a .place ∙ zero-add (length bytes) ∙ ap (λ (x : List ℕ). length x) e; stored = a .line ∙ ap (sets out 0) e }
 
   pub lines-printed : (c : Listing) → p ≡ At c → LinesPrinted c l words out out′ n → ShownPrinted p l words out out′ n
   unfolding shown

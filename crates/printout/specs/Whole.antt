@@ -1,5 +1,5 @@
 -- The whole printed sheet in one buffer (document 01, "The printed sheet"). Assumes nothing.
-use Prim.Native.Nat.{ℕ}
+use Prim.Native.Nat.{ℕ, _+_}
 use mathlib.Core.Path.{_≡_}
 use mathlib.Core.List.{List}
 use mathlib.Core.Bool.{false}
@@ -16,6 +16,12 @@ use Rattle.listing.specs.Walk.{linesFrom}
 use Rattle.record_words.specs.Words.{recordsIn}
 use Rattle.sheets.specs.declared.Printing.{Printing}
 use Rattle.sheets.specs.Printing.{sheetLimits, sheetSizes, loadedWith, shown, Begun}
+
+-- of a buffer as it was, a place and a text: how it is afterwards, with as much of the text from that place on as it has room for, and which place
+-- comes behind the whole text
+pub record Appended (s : List ℕ) (at : ℕ) (text : List ℕ) (t : List ℕ) (next : ℕ) : Type 0 where
+  pub line : t ≡ sets s at text
+  pub place : next ≡ at + length text
 
 -- the lines from a position on, one after another
 abbrev pub linesText : Listing → Lent → List ℕ → List ℕ

@@ -3,9 +3,8 @@ ghost use Prim.Native.Nat.{_+_, _≤_, _<_};
 ghost use lib.ListN.{length};
 ghost use Rattle.job.specs.Layout.{slices};
 ghost use Rattle.run_loop.specs.Running.{lentState};
-ghost use Rattle.lines.specs.Texts.{Appended};
 ghost use Rattle.lines.specs.LineTexts.{lent};
-ghost use Rattle.printout.specs.Whole.{LinesPrinted, ShownPrinted, Printed};
+ghost use Rattle.printout.specs.Whole.{Appended, LinesPrinted, ShownPrinted, Printed};
 use job_sheet::begin;
 use lent::at8;
 use lent::part8;
@@ -68,12 +67,13 @@ fn print_shown(
 ) -> usize
     ensures { λ r. ⌜ ShownPrinted printing (lent (now (maps .entry)) (now (ends .entry)) (now (rests .entry))) (now (words .entry)) (now (out .entry)) (now (out .exit)) r ⌝ }
 {
+    let mut line = [0u8; 256];
     match printing {
-        Printing::Refused(n) => refused(n, out),
-        Printing::At(position) => {
-            let mut line = [0u8; 256];
-            print_from(position, maps, ends, rests, words, &mut line, out)
+        Printing::Refused(n) => {
+            let size = refused(n, &mut line);
+            text(out, 0, part8(&line, 0, size))
         }
+        Printing::At(position) => print_from(position, maps, ends, rests, words, &mut line, out),
     }
 }
 

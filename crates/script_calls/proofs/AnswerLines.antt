@@ -6,7 +6,7 @@ use Rattle.allocator.specs.Calls.{Answer, refused, placed, evicted, ended}
 use Rattle.allocator.specs.Script.{answerLine}
 use Rattle.calls.specs.Calling.{refusalNumber, valueNumber}
 use Rattle.call_lists.specs.Listed.{wordNumber}
-use Rattle.transcript.specs.Said.{answerText}
+use Rattle.answers.specs.Answers.{answerText}
 
 -- a refusal has a number
 abbrev pub Numbered : Answer → Type 0

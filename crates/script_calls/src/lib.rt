@@ -13,7 +13,6 @@ use script_bytes::input::read_number;
 use script_bytes::output::print;
 use script_io::questions::ask_check;
 use script_io::questions::ask_unit_free;
-use transcript::answers;
 use transcript::states;
 
 pub mod loading;

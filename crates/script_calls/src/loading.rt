@@ -4,7 +4,6 @@ use crate::make_calls;
 use loader::load::JobLoaded;
 use script_bytes::output::print;
 use stage_loader::load;
-use transcript::answers;
 
 // Prints that a job is refused, with the refusal's number.
 fn print_refused(line: &mut [u8], n: u8) {

@@ -21,7 +21,6 @@ use script_bytes::input::read_number;
 use script_bytes::output::print;
 use segment_lists::check_list;
 use segment_lists::next_in_list;
-use transcript::answers;
 use unit_free::UnitFree;
 use unit_free::is_unit_free;
 

@@ -9,7 +9,6 @@ use script_bytes::input::read_some;
 use script_bytes::input::skip;
 use script_bytes::output::print;
 use script_calls::loading::run_job;
-use transcript::answers;
 
 // Reads a job of `length` bytes: the first 32,769 are kept, one more than a job may have, and the others are read and forgotten. Answers whether
 // they were all there.

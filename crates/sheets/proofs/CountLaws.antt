@@ -2,18 +2,23 @@
 -- nothing.
 use Prim.Native.Nat.{ℕ, suc, _+_, _-_, _*_, _≤_, _<_}
 use native.Mathlib.Omega.{arith}
+use native.Mathlib.Nat.{zero-add}
 use mathlib.Core.Path.{_≡_, sym, ap, _∙_, subst}
 use mathlib.Core.List.{List, [], _++_}
 use lib.ListN.{length, take, length-append}
-use lib.Seq.{length-take-le}
+use lib.Seq.{length-sets, length-take-le}
 use Rattle.lent.specs.Parts.{part}
 use Rattle.lent.proofs.Laws.{inside}
 use Rattle.reg_matrix.specs.Lists.{concatMap}
+use Rattle.reg_matrix.specs.Lines.{refusedLine}
 use Rattle.listing.specs.declared.Listing.{Listing}
 use Rattle.listing.specs.declared.Step.{Step}
 use Rattle.listing.specs.declared.Step.the-variants.{Line, End as NoMore}
+use Rattle.texts.specs.Texts.{Stored}
+use Rattle.texts.proofs.StoreLaws.{room-place}
 use Rattle.lines.specs.LineTexts.{Lent}
 use Rattle.listing.specs.Walk.{lineLimit, linesFrom}
+use Rattle.listing.proofs.LineLaws.{refused-room, refused-front}
 use Rattle.listing.proofs.FewLines.{lines-few}
 use Rattle.record_words.specs.Words.{recordsIn}
 use Rattle.sheets.specs.Printing.{LeftToPrint, NextLine}
@@ -21,6 +26,14 @@ use Rattle.sheets.specs.Printing.{LeftToPrint, NextLine}
 -- the first n bytes of a line
 pub front-part : (n : ℕ) (t : List ℕ) → n ≤ length t → part 0 n t ≡ take n t
 front-part n t h = let e : n - 0 ≡ n = omega arith in inside 0 n t (omega arith) h ∙ ap (λ (k : ℕ). take k t) e
+
+-- a refusal's line, stored in a line that is long enough
+pub refused-part : (n : ℕ) (s t : List ℕ) (k : ℕ) → lineLimit ≤ length s → Stored s 0 (refusedLine n) t k → part 0 k t ≡ refusedLine n
+refused-part n s t k long p =
+    let room : 0 + length (refusedLine n) ≤ length s = omega (arith, refused-room n, long) in
+    let size : k ≡ length (refusedLine n) = room-place p room ∙ zero-add (length (refusedLine n)) in
+    let h : k ≤ length t = omega (arith, size, room, ap (λ (x : List ℕ). length x) (p .line), length-sets s 0 (refusedLine n)) in
+    front-part k t h ∙ ap (λ (i : ℕ). take i t) size ∙ ap (take (length (refusedLine n))) (p .line) ∙ refused-front s n long
 
 module _ (l : Lent) (words : List ℕ) (c₀ : Listing) where
   abbrev linesOf : Listing → List (List ℕ)

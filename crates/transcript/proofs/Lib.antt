@@ -1,4 +1,3 @@
-pub mod StoreLaws
 pub mod Weights
 pub mod SaidLaws
 pub mod StateLaws

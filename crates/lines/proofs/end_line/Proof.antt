@@ -1,6 +1,6 @@
 use borrow.Author.Needs.{needs}
 use Rattle.reg_matrix.specs.Lists.{ascii}
-use Rattle.lines.proofs.TextLaws as laws
+use Rattle.texts.proofs.StoreLaws as laws
 use Rattle.lines.proofs.end_line.Statement.{statement}
 use Rattle.lines.proofs.end_line.Tie as tie
 
@@ -24,7 +24,7 @@ same-length c = search needs
 
 returns : tie.Need-returns
 unfolding ascii
-returns c = laws.then (laws.then (laws.then (c .before .before .before .before .before .before .before .before .before .before .before .before .before .before .text .ensures) (c .before .before .before .before .before .before .before .before .before .before .end-word .ensures .0)) (c .before .before .before .before .before .before .spaced .ensures .0)) (c .before .before .byte .ensures)
+returns c = laws.then (laws.then (laws.then (c .before .before .before .before .before .before .before .before .before .before .before .before .before .before .text .ensures) (c .before .before .before .before .before .before .before .before .before .before .end-word .ensures)) (c .before .before .before .before .before .before .spaced .ensures)) (c .before .before .byte .ensures)
 
 pub end-line-spec : {M : Type 1} → statement M
 end-line-spec =

@@ -1,5 +1,4 @@
 use borrow.Author.Needs.{needs}
-use native.Mathlib.Omega.{arith}
 use Rattle.reg_matrix.specs.Lists.{ascii}
 use Rattle.lines.proofs.end_word.Statement.{statement}
 use Rattle.lines.proofs.end_word.Tie as tie
@@ -36,21 +35,21 @@ same-length c = search needs
 
 returns : tie.Need-returns
 unfolding ascii
-returns c = (rw (c .before .before .before .before .before .enum-told .given .1) (c .before .before .text .ensures), omega (arith, c .before .before .text .ensures .place))
+returns c = rw (c .before .before .before .before .before .enum-told .given .1) (c .before .before .text .ensures)
 
 same-length-2 : tie.Need-same-length-2
 same-length-2 c = search needs
 
 returns-2 : tie.Need-returns-2
 unfolding ascii
-returns-2 c = (rw (c .before .before .before .before .before .enum-told2 .given .1) (c .before .before .text2 .ensures), omega (arith, c .before .before .text2 .ensures .place))
+returns-2 c = rw (c .before .before .before .before .before .enum-told2 .given .1) (c .before .before .text2 .ensures)
 
 same-length-3 : tie.Need-same-length-3
 same-length-3 c = search needs
 
 returns-3 : tie.Need-returns-3
 unfolding ascii
-returns-3 c = (rw (c .before .before .before .before .before .enum-told3 .given .1) (c .before .before .text3 .ensures), omega (arith, c .before .before .text3 .ensures .place))
+returns-3 c = rw (c .before .before .before .before .before .enum-told3 .given .1) (c .before .before .text3 .ensures)
 
 pub end-word-spec : {M : Type 1} → statement M
 end-word-spec =

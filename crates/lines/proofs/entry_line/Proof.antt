@@ -1,8 +1,7 @@
 use borrow.Author.Needs.{needs}
-use native.Mathlib.Omega.{arith}
 use Rattle.reg_matrix.specs.Lists.{ascii}
 use Rattle.reg_matrix.specs.Lines.{entryLine}
-use Rattle.lines.proofs.TextLaws as laws
+use Rattle.texts.proofs.StoreLaws as laws
 use Rattle.lines.proofs.entry_line.Statement.{statement}
 use Rattle.lines.proofs.entry_line.Tie as tie
 
@@ -31,17 +30,17 @@ spaced-requires-2 : tie.Need-spaced-requires-2
 spaced-requires-2 c κs = search needs
 
 reservation-requires : tie.Need-reservation-requires
-reservation-requires c κs = omega (arith, c .before .before .before .before .before .before .before .before .before .before .before .before .before .before .before .before .before .before .text .ensures .place, c .before .before .before .before .before .before .before .before .before .before .before .before .before .number .ensures .1, c .before .before .before .before .before .before .before .before .spaced .ensures .1, c .before .before .before .spaced2 .ensures .1)
+reservation-requires c κs = search needs
 
 byte-requires : tie.Need-byte-requires
-byte-requires c κs = omega (arith, c .before .before .before .before .before .before .before .before .before .before .before .before .before .before .before .before .before .before .before .before .before .before .text .ensures .place, c .before .before .before .before .before .before .before .before .before .before .before .before .before .before .before .before .before .number .ensures .1, c .before .before .before .before .before .before .before .before .before .before .before .before .spaced .ensures .1, c .before .before .before .before .before .before .before .spaced2 .ensures .1, c .before .before .before .reservation .ensures .1)
+byte-requires c κs = search needs
 
 same-length : tie.Need-same-length
 same-length c = search needs
 
 returns : tie.Need-returns
 unfolding ascii entryLine
-returns c = laws.then (laws.then (laws.then (laws.then (laws.then (c .before .before .before .before .before .before .before .before .before .before .before .before .before .before .before .before .before .before .before .before .before .before .before .before .before .text .ensures) (c .before .before .before .before .before .before .before .before .before .before .before .before .before .before .before .before .before .before .before .before .number .ensures .0)) (c .before .before .before .before .before .before .before .before .before .before .before .before .before .before .before .spaced .ensures .0)) (c .before .before .before .before .before .before .before .before .before .before .spaced2 .ensures .0)) (c .before .before .before .before .before .before .reservation .ensures .0)) (c .before .before .byte .ensures)
+returns c = laws.then (laws.then (laws.then (laws.then (laws.then (c .before .before .before .before .before .before .before .before .before .before .before .before .before .before .before .before .before .before .before .before .before .before .before .before .before .text .ensures) (c .before .before .before .before .before .before .before .before .before .before .before .before .before .before .before .before .before .before .before .before .number .ensures)) (c .before .before .before .before .before .before .before .before .before .before .before .before .before .before .before .spaced .ensures)) (c .before .before .before .before .before .before .before .before .before .before .spaced2 .ensures)) (c .before .before .before .before .before .before .reservation .ensures)) (c .before .before .byte .ensures)
 
 pub entry-line-spec : {M : Type 1} → statement M
 entry-line-spec =

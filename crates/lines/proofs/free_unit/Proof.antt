@@ -1,6 +1,5 @@
 use borrow.Author.Needs.{needs}
-use native.Mathlib.Omega.{arith}
-use Rattle.lines.proofs.TextLaws as laws
+use Rattle.texts.proofs.StoreLaws as laws
 use Rattle.lines.proofs.free_unit.Statement.{statement}
 use Rattle.lines.proofs.free_unit.Tie as tie
 
@@ -11,10 +10,10 @@ same-length : tie.Need-same-length
 same-length c = search needs
 
 returns : tie.Need-returns
-returns c = (rw (c .before .before .before .before .if1 .taken) (c .before .before .spaced .ensures .0), omega (arith, c .before .before .spaced .ensures .0 .place, laws.number-short (c .before .before .before .before .before .before .args .unit) (omega (arith, c .before .before .before .before .before .before .pre .1))))
+returns c = rw (c .before .before .before .before .if1 .taken) (c .before .before .spaced .ensures)
 
 returns-2 : tie.Need-returns-2
-returns-2 c = (rw (c .if1 .left) (laws.nothing (c .before .before .args .line .now) (c .before .before .args .at)), omega arith)
+returns-2 c = rw (c .if1 .left) (laws.nothing (c .before .before .args .line .now) (c .before .before .args .at))
 
 pub free-unit-spec : {M : Type 1} → statement M
 free-unit-spec = tie.close (tie.spec spaced-requires same-length returns returns-2)

@@ -1,5 +1,4 @@
 use borrow.Author.Needs.{needs}
-use native.Mathlib.Omega.{arith}
 use Rattle.reg_matrix.specs.Lists.{ascii}
 use Rattle.lines.proofs.index.Statement.{statement}
 use Rattle.lines.proofs.index.Tie as tie
@@ -27,13 +26,13 @@ same-length c = search needs
 
 returns : tie.Need-returns
 unfolding ascii
-returns c = (rw (c .before .before .before .before .before .enum-told .given .1) (c .before .before .text .ensures), omega (arith, c .before .before .text .ensures .place))
+returns c = rw (c .before .before .before .before .before .enum-told .given .1) (c .before .before .text .ensures)
 
 same-length-2 : tie.Need-same-length-2
 same-length-2 c = search needs
 
 returns-2 : tie.Need-returns-2
-returns-2 c = (rw (c .before .before .before .before .before .i .given .1) (c .before .before .spaced .ensures .0), c .before .before .spaced .ensures .1)
+returns-2 c = rw (c .before .before .before .before .before .i .given .1) (c .before .before .spaced .ensures)
 
 pub index-spec : {M : Type 1} → statement M
 index-spec =

@@ -1,8 +1,7 @@
 use borrow.Author.Needs.{needs}
-use native.Mathlib.Omega.{arith}
 use Rattle.reg_matrix.specs.Lists.{ascii}
 use Rattle.reg_matrix.specs.Lines.{reservationText}
-use Rattle.lines.proofs.TextLaws as laws
+use Rattle.texts.proofs.StoreLaws as laws
 use Rattle.lines.proofs.reservation.Statement.{statement}
 use Rattle.lines.proofs.reservation.Tie as tie
 
@@ -53,21 +52,21 @@ same-length c = search needs
 
 returns : tie.Need-returns
 unfolding ascii reservationText
-returns c = (rw (c .before .before .before .before .before .before .before .before .before .before .before .before .before .before .held .given .1) (laws.then (laws.then (c .before .before .before .before .before .before .before .before .before .before .text .ensures) (c .before .before .before .before .before .before .number .ensures .0)) (c .before .before .index .ensures .0)), omega (arith, c .before .before .before .before .before .before .before .before .before .before .text .ensures .place, c .before .before .before .before .before .before .number .ensures .1, c .before .before .index .ensures .1))
+returns c = rw (c .before .before .before .before .before .before .before .before .before .before .before .before .before .before .held .given .1) (laws.then (laws.then (c .before .before .before .before .before .before .before .before .before .before .text .ensures) (c .before .before .before .before .before .before .number .ensures)) (c .before .before .index .ensures))
 
 same-length-2 : tie.Need-same-length-2
 same-length-2 c = search needs
 
 returns-2 : tie.Need-returns-2
 unfolding ascii reservationText
-returns-2 c = (rw (c .before .before .before .before .before .before .before .before .before .before .held2 .given .1) (laws.then (c .before .before .before .before .before .before .text2 .ensures) (c .before .before .number2 .ensures .0)), omega (arith, c .before .before .before .before .before .before .text2 .ensures .place, c .before .before .number2 .ensures .1))
+returns-2 c = rw (c .before .before .before .before .before .before .before .before .before .before .held2 .given .1) (laws.then (c .before .before .before .before .before .before .text2 .ensures) (c .before .before .number2 .ensures))
 
 same-length-3 : tie.Need-same-length-3
 same-length-3 c = search needs
 
 returns-3 : tie.Need-returns-3
 unfolding ascii reservationText
-returns-3 c = (rw (c .before .before .before .before .before .enum-told .given .1) (c .before .before .text3 .ensures), omega (arith, c .before .before .text3 .ensures .place))
+returns-3 c = rw (c .before .before .before .before .before .enum-told .given .1) (c .before .before .text3 .ensures)
 
 pub reservation-spec : {M : Type 1} → statement M
 reservation-spec =

@@ -1,7 +1,6 @@
 use borrow.Author.Needs.{needs}
-use native.Mathlib.Omega.{arith}
 use Rattle.reg_matrix.specs.Lists.{ascii}
-use Rattle.lines.proofs.TextLaws as laws
+use Rattle.texts.proofs.StoreLaws as laws
 use Rattle.lines.proofs.standing.Statement.{statement}
 use Rattle.lines.proofs.standing.Tie as tie
 
@@ -43,21 +42,21 @@ same-length c = search needs
 
 returns : tie.Need-returns
 unfolding ascii
-returns c = (rw (c .before .before .before .before .before .before .before .before .before .before .assignment .given .1) (laws.then (c .before .before .before .before .before .before .text .ensures) (c .before .before .number .ensures .0)), omega (arith, c .before .before .before .before .before .before .text .ensures .place, c .before .before .number .ensures .1))
+returns c = rw (c .before .before .before .before .before .before .before .before .before .before .assignment .given .1) (laws.then (c .before .before .before .before .before .before .text .ensures) (c .before .before .number .ensures))
 
 same-length-2 : tie.Need-same-length-2
 same-length-2 c = search needs
 
 returns-2 : tie.Need-returns-2
 unfolding ascii
-returns-2 c = (rw (c .before .before .before .before .before .enum-told .given .1) (c .before .before .text2 .ensures), omega (arith, c .before .before .text2 .ensures .place))
+returns-2 c = rw (c .before .before .before .before .before .enum-told .given .1) (c .before .before .text2 .ensures)
 
 same-length-3 : tie.Need-same-length-3
 same-length-3 c = search needs
 
 returns-3 : tie.Need-returns-3
 unfolding ascii
-returns-3 c = (rw (c .before .before .before .before .before .enum-told2 .given .1) (c .before .before .text3 .ensures), omega (arith, c .before .before .text3 .ensures .place))
+returns-3 c = rw (c .before .before .before .before .before .enum-told2 .given .1) (c .before .before .text3 .ensures)
 
 pub standing-spec : {M : Type 1} → statement M
 standing-spec =

@@ -1,7 +1,7 @@
 use borrow.Author.Needs.{needs}
 use Rattle.reg_matrix.specs.Lists.{ascii}
 use Rattle.lines.specs.LineTexts.{standingText}
-use Rattle.lines.proofs.TextLaws as laws
+use Rattle.texts.proofs.StoreLaws as laws
 use Rattle.lines.proofs.standing_line.Statement.{statement}
 use Rattle.lines.proofs.standing_line.Tie as tie
 
@@ -25,7 +25,7 @@ same-length c = search needs
 
 returns : tie.Need-returns
 unfolding ascii standingText
-returns c = laws.then (laws.then (laws.then (c .before .before .before .before .before .before .before .before .before .before .before .before .before .before .text .ensures) (c .before .before .before .before .before .before .before .before .before .before .number .ensures .0)) (c .before .before .before .before .before .before .standing .ensures .0)) (c .before .before .byte .ensures)
+returns c = laws.then (laws.then (laws.then (c .before .before .before .before .before .before .before .before .before .before .before .before .before .before .text .ensures) (c .before .before .before .before .before .before .before .before .before .before .number .ensures)) (c .before .before .before .before .before .before .standing .ensures)) (c .before .before .byte .ensures)
 
 pub standing-line-spec : {M : Type 1} → statement M
 standing-line-spec =

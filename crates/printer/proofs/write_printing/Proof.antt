@@ -22,7 +22,7 @@ same-length : tie.Need-same-length
 same-length c = search needs
 
 returns : tie.Need-returns
-returns c = refusal-written _ _ _ _ _ (c .before .before .before .before .before .before .before .printing .given .1) _ _ _ (c .before .before .before .before .before .before .before .before .before .before .before .before .before .before .pre) (c .before .before .before .before .refused .ensures .0) (c .before .before .before .before .refused .ensures .1) (c .write-front .ensures)
+returns c = refusal-written _ _ _ _ _ (c .before .before .before .before .before .before .before .printing .given .1) _ _ _ (c .before .before .before .before .before .before .before .before .before .before .before .before .before .before .pre) (c .before .before .before .before .refused .ensures) (c .write-front .ensures)
 
 same-length-2 : tie.Need-same-length-2
 same-length-2 c = search needs

@@ -1,13 +1,26 @@
 use borrow.Author.Needs.{needs}
-use Rattle.printout.proofs.WholeLaws.{refused-printed, lines-printed}
+use native.Mathlib.Omega.{arith}
+use Rattle.printout.proofs.WholeLaws.{refused-small, refused-printed, lines-printed}
 use Rattle.printout.proofs.print_shown.Statement.{statement}
 use Rattle.printout.proofs.print_shown.Tie as tie
 
 enum-known-printing : tie.Need-enum-known-printing
 enum-known-printing c = search needs
 
+slice-aggregate-refused : tie.Need-slice-aggregate-refused
+slice-aggregate-refused c = search needs
+
 refused-requires : tie.Need-refused-requires
 refused-requires c κs = search needs
+
+slice-aggregate-part8 : tie.Need-slice-aggregate-part8
+slice-aggregate-part8 c = search needs
+
+part8-requires : tie.Need-part8-requires
+part8-requires c κs = search needs
+
+text-requires : tie.Need-text-requires
+text-requires c κs = refused-small _ _ _ _ (omega arith) (c .before .before .before .before .refused .ensures) _ (c .part8 .ensures)
 
 enum-known-printing-2 : tie.Need-enum-known-printing-2
 enum-known-printing-2 c = search needs
@@ -22,7 +35,7 @@ same-length : tie.Need-same-length
 same-length c = search needs
 
 returns : tie.Need-returns
-returns c = refused-printed _ _ _ _ _ _ _ (c .before .before .before .before .before .printing .given .1) (c .before .before .refused .ensures .0) (c .before .before .refused .ensures .1)
+returns c = refused-printed _ _ _ _ _ _ _ (c .before .before .before .before .before .before .before .before .before .before .printing .given .1) _ _ _ (omega arith) (c .before .before .before .before .before .before .before .refused .ensures) _ (c .before .before .before .part8 .ensures) (c .before .before .text .ensures)
 
 same-length-2 : tie.Need-same-length-2
 same-length-2 c = search needs
@@ -35,7 +48,11 @@ print-shown-spec =
     tie.close
     (tie.spec
     enum-known-printing
+    slice-aggregate-refused
     refused-requires
+    slice-aggregate-part8
+    part8-requires
+    text-requires
     enum-known-printing-2
     slice-aggregate-print-from
     print-from-requires

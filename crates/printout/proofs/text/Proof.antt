@@ -5,7 +5,7 @@ use native.Mathlib.Nat.{add-zero}
 use mathlib.Core.Path.{_≡_, refl, sym, _∙_}
 use lib.ListN.{length, drop, length-set}
 use lib.Seq.{sets}
-use Rattle.lines.proofs.TextLaws as laws
+use Rattle.printout.proofs.WholeLaws as laws
 use Rattle.printout.proofs.text.Statement.{statement}
 use Rattle.printout.proofs.text.Tie as tie
 

@@ -1,6 +1,7 @@
 use borrow.Author.Needs.{needs}
 use borrow.Author.Tests.{lt-ltb, le-ltb, eq-eqb, ne-eqb}
 use Rattle.listing.specs.Walk.{entryFound}
+use Rattle.listing.proofs.LineLaws.{entry-room}
 use Rattle.listing.proofs.WalkLaws as laws
 use Rattle.listing.proofs.Listing.next_entry.Statement.{statement}
 use Rattle.listing.proofs.Listing.next_entry.Tie as tie
@@ -48,7 +49,7 @@ same-length-3 c = search needs
 
 returns-3 : tie.Need-returns-3
 unfolding entryFound
-returns-3 c = rw (lt-ltb _ _ (c .before .before .before .before .before .before .before .before .before .if1 .left), ← c .before .before .before .before .before .before .before .before .at .ensures, ne-eqb _ _ (c .before .before .before .before .before .before .before .if2 .left), ← c .before .before .before .before .before .at2 .ensures, ← c .before .before .before .before .entry-of .ensures) (laws.told (c .before .before .before .before .before .before .before .before .before .before .before .before .before .before .args .self) (c .before .before .before .entry-line .ensures) (c .moved .ensures))
+returns-3 c = rw (lt-ltb _ _ (c .before .before .before .before .before .before .before .before .before .if1 .left), ← c .before .before .before .before .before .before .before .before .at .ensures, ne-eqb _ _ (c .before .before .before .before .before .before .before .if2 .left), ← c .before .before .before .before .before .at2 .ensures, ← c .before .before .before .before .entry-of .ensures) (laws.told (c .before .before .before .before .before .before .before .before .before .before .before .before .before .before .args .self) (c .before .before .before .entry-line .ensures) (entry-room _) (c .before .before .before .before .before .before .before .before .before .before .before .before .before .before .pre) (c .moved .ensures))
 
 pub next-entry-spec : {M : Type 1} → statement M
 next-entry-spec =

@@ -1,6 +1,7 @@
 use borrow.Author.Needs.{needs}
 use mathlib.Core.Path.{refl}
 use Rattle.lines.specs.LineTexts.{lent}
+use Rattle.listing.proofs.LineLaws.{end-room}
 use Rattle.listing.proofs.WalkLaws as laws
 use Rattle.listing.proofs.Listing.next_line.Statement.{statement}
 use Rattle.listing.proofs.Listing.next_line.Tie as tie
@@ -35,7 +36,7 @@ same-length c = search needs
 returns : tie.Need-returns
 returns c =
     let a = c .before .before .before .before .before .before .before .before .before .before .before .args in
-    laws.by (a .self) (a .line .now) (laws.found-at (a .self) (a .assignment) (lent (a .maps .now) (a .ends .now) (a .rests .now)) _ (c .before .before .before .before .before .enum-told .given .1)) (laws.told (a .self) (c .before .before .before .end-line .ensures) (c .moved .ensures))
+    laws.by (a .self) (a .line .now) (laws.found-at (a .self) (a .assignment) (lent (a .maps .now) (a .ends .now) (a .rests .now)) _ (c .before .before .before .before .before .enum-told .given .1)) (laws.told (a .self) (c .before .before .before .end-line .ensures) (end-room (a .self .ending) (a .self .dequeues)) (c .before .before .before .before .before .before .before .before .before .before .before .pre) (c .moved .ensures))
 
 same-length-2 : tie.Need-same-length-2
 same-length-2 c = search needs

@@ -1,6 +1,7 @@
 use borrow.Author.Needs.{needs}
 use borrow.Author.Tests.{lt-ltb, le-ltb}
 use Rattle.listing.specs.Walk.{virtRegFound}
+use Rattle.listing.proofs.LineLaws.{standing-room}
 use Rattle.listing.proofs.WalkLaws as laws
 use Rattle.listing.proofs.Listing.next_virt_reg.Statement.{statement}
 use Rattle.listing.proofs.Listing.next_virt_reg.Tie as tie
@@ -29,7 +30,7 @@ same-length-2 c = search needs
 
 returns-2 : tie.Need-returns-2
 unfolding virtRegFound
-returns-2 c = rw (lt-ltb _ _ (c .before .before .before .before .before .if1 .left)) (laws.told (c .before .before .before .before .before .before .before .before .before .before .before .before .args .self) (c .before .before .before .standing-line .ensures) (c .moved .ensures))
+returns-2 c = rw (lt-ltb _ _ (c .before .before .before .before .before .if1 .left)) (laws.told (c .before .before .before .before .before .before .before .before .before .before .before .before .args .self) (c .before .before .before .standing-line .ensures) (standing-room _ _) (c .before .before .before .before .before .before .before .before .before .before .before .before .pre) (c .moved .ensures))
 
 pub next-virt-reg-spec : {M : Type 1} → statement M
 next-virt-reg-spec =

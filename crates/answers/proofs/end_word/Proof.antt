@@ -1,0 +1,61 @@
+use borrow.Author.Needs.{needs}
+use borrow.Author.Tests.{eq-eqb, ne-eqb}
+use Rattle.reg_matrix.specs.Lists.{ascii}
+use Rattle.answers.proofs.end_word.Statement.{statement}
+use Rattle.answers.proofs.end_word.Tie as tie
+
+slice-aggregate-text : tie.Need-slice-aggregate-text
+slice-aggregate-text c = search needs
+
+text-requires : tie.Need-text-requires
+text-requires c κs = search needs
+
+same-length : tie.Need-same-length
+same-length c = search needs
+
+returns : tie.Need-returns
+unfolding ascii
+returns c = rw (eq-eqb _ _ (c .before .before .before .before .before .if1 .taken)) (c .before .before .text .ensures)
+
+slice-aggregate-text-2 : tie.Need-slice-aggregate-text-2
+slice-aggregate-text-2 c = search needs
+
+text-requires-2 : tie.Need-text-requires-2
+text-requires-2 c κs = search needs
+
+same-length-2 : tie.Need-same-length-2
+same-length-2 c = search needs
+
+returns-2 : tie.Need-returns-2
+unfolding ascii
+returns-2 c = rw (ne-eqb _ _ (c .before .before .before .before .before .before .if1 .left), eq-eqb _ _ (c .before .before .before .before .before .if2 .taken)) (c .before .before .text2 .ensures)
+
+slice-aggregate-text-3 : tie.Need-slice-aggregate-text-3
+slice-aggregate-text-3 c = search needs
+
+text-requires-3 : tie.Need-text-requires-3
+text-requires-3 c κs = search needs
+
+same-length-3 : tie.Need-same-length-3
+same-length-3 c = search needs
+
+returns-3 : tie.Need-returns-3
+unfolding ascii
+returns-3 c = rw (ne-eqb _ _ (c .before .before .before .before .before .before .if1 .left), ne-eqb _ _ (c .before .before .before .before .before .if2 .left)) (c .before .before .text3 .ensures)
+
+pub end-word-spec : {M : Type 1} → statement M
+end-word-spec =
+    tie.close
+    (tie.spec
+    slice-aggregate-text
+    text-requires
+    same-length
+    returns
+    slice-aggregate-text-2
+    text-requires-2
+    same-length-2
+    returns-2
+    slice-aggregate-text-3
+    text-requires-3
+    same-length-3
+    returns-3)
