@@ -1,25 +1,20 @@
 // What calls, checks and spare questions answer, as lines of a transcript (docs/SCRIPT.md), each stored from the front of a line that the caller lends.
 // Their definitions are those of the crates reg_matrix (Lines) and allocator (Script).
+ghost use mathlib.Core.Path.{_≡_};
 ghost use Rattle.reg_matrix.specs.Lists.{ascii};
-ghost use Rattle.reg_matrix.specs.Lines.{refusedLine, line as ended, kindText, reportLine};
+ghost use Rattle.reg_matrix.specs.Lines.{line as ended, kindText, reportLine};
 ghost use Rattle.texts.specs.Texts.{Stored};
-ghost use Rattle.answers.specs.Answers.{wordText, answerText, sparedText};
+ghost use Rattle.answers.specs.Answers.{endingOf, answerText, sparedText};
+use allocator::Ending;
 use reg_matrix::Interference;
 use reg_matrix::InterferenceKind;
+use result_lines::end_line;
+use result_lines::refused_line;
 use texts::byte;
 use texts::number;
 use texts::spaced;
 use texts::text;
 use unit_free::UnitFree;
-
-// `refused N`.
-pub fn refused_line(line: &mut [u8], n: u64) -> usize
-    ensures { λ r. ⌜ Stored (now (line .entry)) 0 (refusedLine n) (now (line .exit)) r ⌝ }
-{
-    let a = text(line, 0, b"refused ");
-    let b = number(line, a, n);
-    byte(line, b, b'\n')
-}
 
 // `bad script`.
 pub fn bad_line(line: &mut [u8]) -> usize
@@ -35,17 +30,17 @@ pub fn check_line(line: &mut [u8]) -> usize
     text(line, 0, b"check\n")
 }
 
-// The word of a run, by its number.
-fn end_word(line: &mut [u8], at: usize, word: u64) -> usize
-    ensures { λ r. ⌜ Stored (now (line .entry)) at (wordText word) (now (line .exit)) r ⌝ }
+// How a run ended, by its word's number.
+fn ending_of(word: u64) -> Ending
+    ensures { λ r. ⌜ r ≡ endingOf word ⌝ }
 {
     if word == 1 {
-        return text(line, at, b"done");
+        return Ending::Done;
     }
     if word == 2 {
-        return text(line, at, b"spent");
+        return Ending::Spent;
     }
-    text(line, at, b"toomany")
+    Ending::TooMany
 }
 
 // What a call answers, by its three numbers: `refused N` where the refusal is not 0; `end WORD DEQUEUES` where it has a word; else `ok`.
@@ -58,10 +53,7 @@ pub fn answer_line(line: &mut [u8], refusal: u64, word: u64, value: u64) -> usiz
     if word == 0 {
         return text(line, 0, b"ok\n");
     }
-    let a = text(line, 0, b"end ");
-    let b = end_word(line, a, word);
-    let c = spaced(line, b, value);
-    byte(line, c, b'\n')
+    end_line(line, ending_of(word), value)
 }
 
 // `spare`, `busy` or `refused N`.

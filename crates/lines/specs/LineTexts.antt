@@ -10,8 +10,6 @@ use Rattle.entries.specs.Moves.{words}
 use Rattle.unit_free.specs.Spare.{freeAt, range, spareAnswer}
 use Rattle.unit_free.specs.declared.UnitFree.{UnitFree}
 use Rattle.unit_free.specs.declared.UnitFree.the-variants.{Free, Taken, NotAsked}
-use Rattle.allocator.specs.declared.Assignment.{Assignment}
-use Rattle.allocator.specs.Sheet.{standing}
 
 -- what is lent: the registers' maps of units, and the table's two slices
 pub record Lent : Type 0 where
@@ -23,10 +21,6 @@ abbrev pub lent : List ℕ → List ℕ → List ℕ → Lent
 lent maps ends rests = record { maps = maps; ends = ends; rests = rests }
 
 -- ---- the lines
-
--- the line of the virtual register v that stands so
-unfoldable pub standingText : ℕ → Assignment → List ℕ
-standingText v a = line (ascii "v " ++ number v ++ standing a)
 
 -- a unit of one of the first n registers
 unfoldable pub isRegisterUnit : List ℕ → ℕ → ℕ → Bool

@@ -1,15 +1,12 @@
-// The lines of the sheet (01, "The printed sheet"), each stored from the front of a lent line. What a line has no room for is not stored. Which line
-// is next, the crate listing says.
+// The lines of the sheet that show the table: its entries, and the spare units (01, "The printed sheet"). Each is stored from the front of a lent line;
+// what a line has no room for is not stored. Which line is next, the crate listing says.
 ghost use mathlib.Core.Path.{_≡_};
 ghost use mathlib.Core.List.{[]};
 ghost use mathlib.Core.Bool.{cond};
 ghost use Prim.Native.Nat.{_<_};
-ghost use Rattle.reg_matrix.specs.Lines.{number as decimal, sp, refusedLine, indexText, reservationText, entryLine};
-ghost use Rattle.allocator.specs.Sheet.{endWord, endLine, standing as standingOf};
+ghost use Rattle.reg_matrix.specs.Lines.{number as decimal, sp, indexText, reservationText, entryLine};
 ghost use Rattle.texts.specs.Texts.{Stored};
-ghost use Rattle.lines.specs.LineTexts.{lent, standingText, isRegisterUnit, isFree, isSpare, spareText};
-use allocator::Assignment;
-use allocator::Ending;
+ghost use Rattle.lines.specs.LineTexts.{lent, isRegisterUnit, isFree, isSpare, spareText};
 use lent::at;
 use reg_matrix::Entry;
 use reg_matrix::FixedIndex;
@@ -20,64 +17,6 @@ use texts::spaced;
 use texts::text;
 use unit_free::UnitFree;
 use unit_free::is_unit_free;
-
-fn end_word(line: &mut [u8], at: usize, ending: Ending) -> usize
-    ensures { λ r. ⌜ Stored (now (line .entry)) at (endWord ending) (now (line .exit)) r ⌝ }
-{
-    match ending {
-        Ending::Done => text(line, at, b"done"),
-        Ending::Spent => text(line, at, b"spent"),
-        Ending::TooMany => text(line, at, b"toomany"),
-    }
-}
-
-// `end WORD DEQUEUES`.
-pub fn end_line(line: &mut [u8], ending: Ending, dequeues: u64) -> usize
-    ensures { λ r. ⌜ Stored (now (line .entry)) 0 (endLine ending dequeues) (now (line .exit)) r ⌝ }
-{
-    let a = text(line, 0, b"end ");
-    let b = end_word(line, a, ending);
-    let c = spaced(line, b, dequeues);
-    byte(line, c, b'\n')
-}
-
-// `refused N`.
-pub fn refused_line(line: &mut [u8], n: u8) -> usize
-    ensures { λ r. ⌜ Stored (now (line .entry)) 0 (refusedLine n) (now (line .exit)) r ⌝ }
-{
-    let a = text(line, 0, b"refused ");
-    let b = number(line, a, n as u64);
-    byte(line, b, b'\n')
-}
-
-fn standing(line: &mut [u8], at: usize, assignment: Assignment) -> usize
-    ensures { λ r. ⌜ Stored (now (line .entry)) at (standingOf assignment) (now (line .exit)) r ⌝ }
-{
-    match assignment {
-        Assignment::Assigned {
-            evicted_for_preference: _,
-            reg,
-            preference_weight: _,
-        } => {
-            let next = text(line, at, b" reg ");
-            number(line, next, reg as u64)
-        }
-        Assignment::Unassigned {
-            evicted_for_preference: _,
-        } => text(line, at, b" wait"),
-        Assignment::Dead => text(line, at, b" left"),
-    }
-}
-
-// `v N reg R`, `v N left` or `v N wait`.
-pub fn standing_line(line: &mut [u8], v: u16, assignment: Assignment) -> usize
-    ensures { λ r. ⌜ Stored (now (line .entry)) 0 (standingText v assignment) (now (line .exit)) r ⌝ }
-{
-    let a = text(line, 0, b"v ");
-    let b = number(line, a, v as u64);
-    let c = standing(line, b, assignment);
-    byte(line, c, b'\n')
-}
 
 fn index(line: &mut [u8], at: usize, i: FixedIndex) -> usize
     ensures { λ r. ⌜ Stored (now (line .entry)) at (sp (indexText i)) (now (line .exit)) r ⌝ }

@@ -32,7 +32,8 @@ use Rattle.listing.specs.declared.Listing.{Listing}
 use Rattle.listing.specs.declared.Step.{Step}
 use Rattle.listing.specs.declared.Step.the-variants.{Line, Refused, End as NoMore}
 use Rattle.texts.proofs.Digits.{number-length, number-short}
-use Rattle.lines.specs.LineTexts.{Lent, standingText, isSpare, unitsText, spareText}
+use Rattle.lines.specs.LineTexts.{Lent, isSpare, unitsText, spareText}
+use Rattle.result_lines.specs.ResultTexts.{standingText}
 use Rattle.listing.specs.Walk.{numberAt, lineLimit, Found, noMore, aLine, isEntry, entryAt, spareFound, entryFound, virtRegFound, foundAt, found, moved, stepOf, printedOn, AnsweredIfLong, recordAt, spareLines, entryLines, virtRegLines, linesAt, linesFrom, linesOf}
 
 -- the number whose record a position asks for

@@ -39,7 +39,8 @@ use Rattle.allocator.proofs.Good.{Good, good-reached}
 use Rattle.stage.proofs.Reached.{entries-fit, walkable}
 use Rattle.stage.proofs.ReachedMoves.{table-stands, spare-found}
 use Rattle.listing.specs.declared.Place.the-variants.{Head, VirtReg}
-use Rattle.lines.specs.LineTexts.{Lent, standingText, isRegisterUnit, isFree, isSpare, unitsText, spareText}
+use Rattle.lines.specs.LineTexts.{Lent, isRegisterUnit, isFree, isSpare, unitsText, spareText}
+use Rattle.result_lines.specs.ResultTexts.{standingText}
 use Rattle.listing.specs.Walk.{isEntry, entryAt, recordAt, spareLines, entryLines, virtRegLines, linesFrom}
 
 -- ---- lists

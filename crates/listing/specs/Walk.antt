@@ -15,7 +15,8 @@ use Rattle.job.specs.declared.JobHeader.{JobHeader}
 use Rattle.allocator.specs.declared.Assignment.{Assignment}
 use Rattle.allocator.specs.declared.Assignment.the-variants.{Dead}
 use Rattle.allocator.specs.Sheet.{endLine}
-use Rattle.lines.specs.LineTexts.{Lent, standingText, spareText}
+use Rattle.lines.specs.LineTexts.{Lent, spareText}
+use Rattle.result_lines.specs.ResultTexts.{standingText}
 use Rattle.listing.specs.declared.Place.{Place}
 use Rattle.listing.specs.declared.Place.the-variants.{Head, VirtReg, Entry, End}
 use Rattle.listing.specs.declared.Listing.{Listing}

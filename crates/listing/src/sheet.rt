@@ -21,7 +21,7 @@ use table_words::words::entry_of;
 pub fn refused(n: u8, line: &mut [u8]) -> usize
     ensures { λ r. ⌜ Stored (now (line .entry)) 0 (refusedLine n) (now (line .exit)) r ⌝ }
 {
-    lines::refused_line(line, n)
+    result_lines::refused_line(line, n as u64)
 }
 
 impl Listing {
@@ -121,7 +121,7 @@ impl Listing {
         if header.virt_regs <= v {
             return self.next_entry(0, maps, ends, rests, line);
         }
-        let n = lines::standing_line(line, v, assignment);
+        let n = result_lines::standing_line(line, v, assignment);
         Step::Line(n, self.moved(Place::VirtReg(v + 1)))
     }
 
@@ -140,7 +140,7 @@ impl Listing {
         match place {
             Place::Head => {
                 let ending = self.ending;
-                let n = lines::end_line(line, ending, self.dequeues);
+                let n = result_lines::end_line(line, ending, self.dequeues);
                 Step::Line(n, self.moved(Place::VirtReg(0)))
             }
             Place::VirtReg(v) => self.next_virt_reg(v, assignment, maps, ends, rests, line),

@@ -27,7 +27,8 @@ use Rattle.run_loop.specs.Running.{endingNumber}
 use Rattle.listing.specs.declared.Listing.{Listing}
 use Rattle.listing.specs.declared.Place.{Place}
 use Rattle.listing.specs.declared.Place.the-variants.{Head, VirtReg, Entry, End}
-use Rattle.lines.specs.LineTexts.{Lent, standingText}
+use Rattle.lines.specs.LineTexts.{Lent}
+use Rattle.result_lines.specs.ResultTexts.{standingText}
 use Rattle.listing.specs.Walk.{Found, noMore, aLine, spareFound, isEntry, entryAt, entryFound, virtRegFound, foundAt, found, moved, numberAt, recordAt, linesFrom, linesOf}
 use Rattle.listing.proofs.LineLaws.{number-small, lines-told}
 use Rattle.listing.proofs.SheetLaws.{Laid, together, reached-sheet}

@@ -7,7 +7,7 @@ use stage_loader::load;
 
 // Prints that a job is refused, with the refusal's number.
 fn print_refused(line: &mut [u8], n: u8) {
-    let length = answers::refused_line(line, n as u64);
+    let length = result_lines::refused_line(line, n as u64);
     print(line, length);
 }
 

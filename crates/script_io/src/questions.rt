@@ -135,7 +135,7 @@ fn check(
         uses,
     ) {
         Start::Refused(refusal) => {
-            let length = answers::refused_line(line, refusal as u64);
+            let length = result_lines::refused_line(line, refusal as u64);
             print(line, length);
         }
         Start::Checking(c) => {

@@ -2,7 +2,6 @@ use borrow.Author.Needs.{needs}
 use borrow.Author.Tests.{eq-eqb, ne-eqb}
 use Rattle.reg_matrix.specs.Lists.{ascii}
 use Rattle.answers.specs.Answers.{answerText}
-use Rattle.texts.proofs.StoreLaws as laws
 use Rattle.answers.proofs.answer_line.Statement.{statement}
 use Rattle.answers.proofs.answer_line.Tie as tie
 
@@ -29,27 +28,18 @@ returns-2 : tie.Need-returns-2
 unfolding ascii answerText
 returns-2 c = rw (eq-eqb _ _ (c .before .before .before .before .before .before .if1 .left), eq-eqb _ _ (c .before .before .before .before .before .if2 .taken)) (c .before .before .text .ensures)
 
-slice-aggregate-text-2 : tie.Need-slice-aggregate-text-2
-slice-aggregate-text-2 c = search needs
+ending-of-requires : tie.Need-ending-of-requires
+ending-of-requires c κs = search needs
 
-text-requires-2 : tie.Need-text-requires-2
-text-requires-2 c κs = search needs
-
-end-word-requires : tie.Need-end-word-requires
-end-word-requires c κs = search needs
-
-spaced-requires : tie.Need-spaced-requires
-spaced-requires c κs = search needs
-
-byte-requires : tie.Need-byte-requires
-byte-requires c κs = search needs
+end-line-requires : tie.Need-end-line-requires
+end-line-requires c κs = search needs
 
 same-length-3 : tie.Need-same-length-3
 same-length-3 c = search needs
 
 returns-3 : tie.Need-returns-3
-unfolding ascii answerText
-returns-3 c = rw (eq-eqb _ _ (c .before .before .before .before .before .before .before .before .before .before .before .before .before .before .before .before .before .before .if1 .left), ne-eqb _ _ (c .before .before .before .before .before .before .before .before .before .before .before .before .before .before .before .before .before .if2 .left)) (laws.then (laws.then (laws.then (c .before .before .before .before .before .before .before .before .before .before .before .before .before .before .text2 .ensures) (c .before .before .before .before .before .before .before .before .before .before .end-word .ensures)) (c .before .before .before .before .before .before .spaced .ensures)) (c .before .before .byte .ensures))
+unfolding answerText
+returns-3 c = rw (eq-eqb _ _ (c .before .before .before .before .before .before .if1 .left), ne-eqb _ _ (c .before .before .before .before .before .if2 .left), ← c .before .before .before .ending-of .ensures) (c .before .before .end-line .ensures)
 
 pub answer-line-spec : {M : Type 1} → statement M
 answer-line-spec =
@@ -62,10 +52,7 @@ answer-line-spec =
     text-requires
     same-length-2
     returns-2
-    slice-aggregate-text-2
-    text-requires-2
-    end-word-requires
-    spaced-requires
-    byte-requires
+    ending-of-requires
+    end-line-requires
     same-length-3
     returns-3)

@@ -1,8 +1,8 @@
 use borrow.Author.Needs.{needs}
 use Rattle.reg_matrix.specs.Lists.{ascii}
 use Rattle.texts.proofs.StoreLaws as laws
-use Rattle.lines.proofs.standing.Statement.{statement}
-use Rattle.lines.proofs.standing.Tie as tie
+use Rattle.result_lines.proofs.standing.Statement.{statement}
+use Rattle.result_lines.proofs.standing.Tie as tie
 
 enum-known-assignment : tie.Need-enum-known-assignment
 enum-known-assignment c = search needs

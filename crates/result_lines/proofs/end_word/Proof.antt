@@ -1,7 +1,7 @@
 use borrow.Author.Needs.{needs}
 use Rattle.reg_matrix.specs.Lists.{ascii}
-use Rattle.lines.proofs.end_word.Statement.{statement}
-use Rattle.lines.proofs.end_word.Tie as tie
+use Rattle.result_lines.proofs.end_word.Statement.{statement}
+use Rattle.result_lines.proofs.end_word.Tie as tie
 
 enum-told : tie.Need-enum-told
 enum-told c = search needs

@@ -1,9 +1,9 @@
 use borrow.Author.Needs.{needs}
 use Rattle.reg_matrix.specs.Lists.{ascii}
-use Rattle.lines.specs.LineTexts.{standingText}
+use Rattle.result_lines.specs.ResultTexts.{standingText}
 use Rattle.texts.proofs.StoreLaws as laws
-use Rattle.lines.proofs.standing_line.Statement.{statement}
-use Rattle.lines.proofs.standing_line.Tie as tie
+use Rattle.result_lines.proofs.standing_line.Statement.{statement}
+use Rattle.result_lines.proofs.standing_line.Tie as tie
 
 slice-aggregate-text : tie.Need-slice-aggregate-text
 slice-aggregate-text c = search needs

@@ -1,8 +1,8 @@
 use borrow.Author.Needs.{needs}
 use Rattle.reg_matrix.specs.Lists.{ascii}
 use Rattle.texts.proofs.StoreLaws as laws
-use Rattle.lines.proofs.end_line.Statement.{statement}
-use Rattle.lines.proofs.end_line.Tie as tie
+use Rattle.result_lines.proofs.end_line.Statement.{statement}
+use Rattle.result_lines.proofs.end_line.Tie as tie
 
 slice-aggregate-text : tie.Need-slice-aggregate-text
 slice-aggregate-text c = search needs
