@@ -115,6 +115,7 @@ module _ (j : Job) (v : ℕ) where
   GoodReg r = T (named j v r)
 
   pub candidates_out : (cs : List CandidateReg) → Candidates cs → (c : CandidateReg) → c ∈ cs → Candidate j v c
+  candidates_out [] a c x'' = elim x'' [ ]
   candidates_out (x ∷ xs) a c (Memᴰ.head q) = subst (λ (y : CandidateReg). Candidate j v y) (sym q) a.0
   candidates_out (x ∷ xs) a c (Memᴰ.tail m) = candidates_out xs a.1 c m
 

@@ -106,6 +106,7 @@ module _ (fixed : List Entry) where
       }
 
   joins_free : (cs ks : List Cell) → Joins fixed cs ks → (k : Cell) → k ∈ ks → Free fixed cs k
+  joins_free cs [] j k x'' = elim x'' [ ]
   joins_free cs (x ∷ xs) j k (Memᴰ.head q) =
       subst (λ (c : Cell). Free fixed cs c) (sym q) (free_among fixed cs (xs ++ cs) x (λ d m. Memᴰ.append_right xs m) j.0)
   joins_free cs (x ∷ xs) j k (Memᴰ.tail m) = joins_free cs xs j.1 k m

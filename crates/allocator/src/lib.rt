@@ -1,5 +1,6 @@
 // The allocator: candidates, queue, eviction, runs and direct calls (`allocator/mod.rs`, `order.rs`, `queue.rs`, `evict.rs`).
 // These are the types that the definitions and contracts speak of.
+#![tactic(auto)]
 
 // 01, "Where the Rust's forms give way": how a virtual register stands. The flag is on once it has evicted another for its preference; the
 // weight says how much it likes the register that it has.

@@ -1,5 +1,7 @@
 // What calls, checks and spare questions answer, as lines of a transcript (docs/SCRIPT.md), each stored from the front of a line that the caller lends.
 // Their definitions are those of the crates reg_matrix (Lines) and allocator (Script).
+#![tactic(auto)]
+
 ghost use Rattle.std.specs.Prelude.{◌≡◌};
 ghost use Rattle.reg_matrix.specs.Lists.{ascii};
 ghost use Rattle.reg_matrix.specs.Lines.{line as ended, kind_text, report_line};

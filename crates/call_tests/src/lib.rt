@@ -1,4 +1,6 @@
 // The tests of direct calls in their order (document 01, "Order"): 15, 8, 9, 13, 14. They read, and change nothing.
+#![tactic(auto)]
+
 ghost use Rattle.std.specs.Prelude.{◌≡◌, ◌||◌, [], ◌∷◌, ltb, leb, length};
 ghost use Rattle.reg_matrix.specs.Lists.{any, count};
 ghost use Rattle.reg_matrix.specs.Refusals.{refusal, short_buffer};

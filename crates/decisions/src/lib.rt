@@ -1,4 +1,6 @@
 // What a dequeue decides (`Context::allocate`). It reads, and changes nothing.
+#![tactic(auto)]
+
 ghost use Rattle.std.specs.Prelude.{◌≡◌, false, not, ◌&&◌, List, [], ℕ, ◌+◌, ◌≤◌, length, get_or, replicate};
 ghost use Rattle.std.specs.Float.Ieee.{lt, eq};
 ghost use Rattle.job.specs.Layout.{slices, lists_in};

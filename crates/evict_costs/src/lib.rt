@@ -1,4 +1,6 @@
 // Costs of an eviction (`evict.rs`): two weights held together and replaced together.
+#![tactic(auto)]
+
 ghost use Rattle.std.specs.Prelude.{◌≡◌};
 ghost use Rattle.allocator.specs.Evict.{max_weight, cheaper};
 ghost use Rattle.evict_costs.specs.Costs.{add_holder, with_holder, may_evict};

@@ -1,4 +1,6 @@
 // Reading a job: its fixed reservations from bytes into lent numbers, as the parsers of the crate job say.
+#![tactic(auto)]
+
 ghost use Rattle.std.specs.Prelude.{◌≡◌, [], length, drop};
 ghost use Rattle.job.specs.Load.{fixed_fields, fixed_range, fixed_tests, reservation as reservation_of};
 ghost use Rattle.job.specs.Parser.{each};

@@ -1,4 +1,5 @@
 // Jobs: from bytes to what a job holds, or to the number of one refusal. These are the types that the definitions speak of.
+#![tactic(auto)]
 
 // 01, "The job": a register that a virtual register would like, with the cost of not getting it.
 #[derive(Drop)]

@@ -1,5 +1,7 @@
 // The part of a slice that is a number's own: `starts` has the place where it begins and, next, the place where it ends. Then such parts of a job's
 // slices (job/specs/Layout).
+#![tactic(auto)]
+
 ghost use Rattle.std.specs.Prelude.{◌≡◌, []};
 ghost use Rattle.job.specs.Layout.{slices, lists_in};
 ghost use Rattle.job_parts.specs.Shares.{share_of, froms_in, tos_in, values_in, class_in};

@@ -1,4 +1,6 @@
 // From a job's bytes to the position before the first line of its sheet (01, "The printed sheet").
+#![tactic(auto)]
+
 ghost use Rattle.job.specs.Layout.{slices};
 ghost use Rattle.run_loop.specs.Running.{lent_state};
 ghost use Rattle.sheets.specs.Printing.{Begun};

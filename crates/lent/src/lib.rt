@@ -1,5 +1,7 @@
 // Reads, stores and parts of lent slices that ask nothing of what is lent: past the end a read gives 0, a store does nothing, and a part that does not
 // lie inside is empty.
+#![tactic(auto)]
+
 ghost use Rattle.std.specs.Prelude.{◌≡◌, ◌-◌, get_or, set, replicate, drop};
 ghost use Rattle.std.proofs.lemmas.List.Edits.{sets};
 ghost use Rattle.std.specs.Float.{binary32};

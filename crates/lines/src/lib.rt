@@ -1,5 +1,7 @@
 // The lines of the sheet that show the table: its entries, and the spare units (01, "The printed sheet"). Each is stored from the front of a lent line;
 // what a line has no room for is not stored. Which line is next, the crate listing says.
+#![tactic(auto)]
+
 ghost use Rattle.std.specs.Prelude.{◌≡◌, [], cond, ◌<◌};
 ghost use Rattle.reg_matrix.specs.Lines.{number as decimal, sp, index_text, reservation_text, entry_line};
 ghost use Rattle.texts.specs.Texts.{Stored};

@@ -1,5 +1,7 @@
 // The printed sheet line by line, in a small buffer that the caller lends: no buffer holds the whole sheet. Its definitions are those of the crates
 // reg_matrix (Lines) and allocator (Sheet); the crate lines stores each line.
+#![tactic(auto)]
+
 use allocator::Ending;
 use job::JobHeader;
 

@@ -1,6 +1,7 @@
 // The reservation matrix in code (`reg_matrix.rs`): the check of a register, over the words of the crate table_words; the crate placing has what
 // changes the table. Its definitions are those of the crate reg_matrix, whose tables and laws each must-fail edit of a definition checks
 // without this code.
+#![tactic(auto)]
 
 use reg_matrix::Interference;
 

@@ -1,4 +1,6 @@
 // One move of a number: it takes a register, loses it, or is passed by; the table, the queue and the last registers follow.
+#![tactic(auto)]
+
 ghost use Rattle.std.specs.Prelude.{◌≡◌, [], ltb, get_or, ◌+◌, ◌<◌};
 ghost use Rattle.job.specs.Layout.{slices, lists_in};
 ghost use Rattle.allocator.specs.declared.Stage.TheVariants.{Split};

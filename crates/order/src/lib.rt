@@ -1,5 +1,7 @@
 // The order in which registers are tried for a virtual register (`order.rs`): the hinted ones by falling weight, the one last given to its set,
 // then its class. The hinted ones stand in two slices that the caller lends for it, 65 long each, so that none is ever copied.
+#![tactic(auto)]
+
 ghost use Rattle.std.specs.Prelude.{◌≡◌, ℕ, ◌+◌, ◌≤◌, ◌<◌, min, ◌||◌, List, eqb, length, take};
 ghost use Rattle.reg_matrix.specs.Lists.{bit, has};
 ghost use Rattle.allocator.specs.declared.CandidateReg.{CandidateReg};

@@ -1,4 +1,6 @@
 // Writes the sheet of a job's bytes to a descriptor, line by line. What is written is what the crate sheets says; here is what moves it, and counts it.
+#![tactic(auto)]
+
 ghost use Rattle.std.specs.Prelude.{◌≤◌, length};
 ghost use Rattle.lent.specs.Parts.{part};
 ghost use Rattle.allocator.specs.Sheet.{printed};

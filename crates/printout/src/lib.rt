@@ -1,4 +1,6 @@
 // The whole printed sheet of a job's bytes in one lent buffer (01, "The printed sheet"), for callers that have room for it.
+#![tactic(auto)]
+
 ghost use Rattle.std.specs.Prelude.{◌+◌, ◌≤◌, ◌<◌, length};
 ghost use Rattle.job.specs.Layout.{slices};
 ghost use Rattle.run_loop.specs.Running.{lent_state};

@@ -1,6 +1,8 @@
 // The queue of virtual registers that wait for a register (`queue.rs`), as a tournament of 1,024 words: word 512 + v is the key of v plus one,
 // or 0 where v does not wait, and each word from 1 to 511 is the greater of the two below it. Plus one, since a key may be 0: number 0 at stage
 // Split with no hints and size 0.
+#![tactic(auto)]
+
 ghost use Rattle.std.specs.Prelude.{◌≡◌, ◌+◌, ◌*◌, ◌^◌, ◌-◌, ◌≤◌, ◌<◌, max, min, cond, get_or};
 ghost use Rattle.allocator.specs.Queue.{stage_bit};
 ghost use Rattle.queue.specs.QueueWalk.{key_of, decoded, play_at, set_word, first_word, leaves_from, play_from, filled};

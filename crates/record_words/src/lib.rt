@@ -1,5 +1,7 @@
 // The records in lent numbers, a word for each: for callers that hold no `Assignment`, as firmware, and for runs, which lend them where 512 records would
 // be copied at every call.
+#![tactic(auto)]
+
 ghost use Rattle.std.specs.Prelude.{◌≡◌, map, ◌≤◌, length, get_or, set, drop};
 ghost use Rattle.std.proofs.lemmas.List.Edits.{sets};
 ghost use Rattle.job.specs.Model.{Plain};

@@ -1,4 +1,6 @@
 // The records: what one says, as they start out, and after a direct call.
+#![tactic(auto)]
+
 ghost use Rattle.std.specs.Prelude.{◌≡◌};
 ghost use Rattle.records.specs.Fields.{first_records};
 

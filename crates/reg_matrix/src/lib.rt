@@ -1,5 +1,6 @@
 // The reservation matrix: which virtual register or fixed operand has a register unit, and when (`reg_matrix.rs`, `live_range.rs`).
 // These are the types that the definitions and every contract above speak of.
+#![tactic(auto)]
 
 // 01, "The job": a part of a virtual register's live range, half-open, with the value that lives in it. A point's low two bits are its slot.
 #[derive(Drop)]

@@ -1,4 +1,6 @@
 // Reading a job: its registers and its classes from bytes into lent numbers, as the parsers of the crate job say.
+#![tactic(auto)]
+
 ghost use Rattle.std.specs.Prelude.{[], ◌+◌, ◌*◌, ◌≤◌, length, drop};
 ghost use Rattle.job.specs.Load.{register as registerOf, known as known_of, class as class_of};
 ghost use Rattle.job.specs.Parser.{each};

@@ -1,4 +1,6 @@
 // Reads a job from standard input and prints its sheet, or `refused N` alone (01, "The printed sheet"). A read that fails ends the input.
+#![tactic(auto)]
+
 use libc::{STDIN_FILENO, STDOUT_FILENO};
 
 fn main() {

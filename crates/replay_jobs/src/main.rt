@@ -1,5 +1,7 @@
 // Reads jobs from standard input, each after its length in four bytes, the lowest first, and prints the sheet of each, one after another. It ends with
 // the input, or at a length that is above 32,769 or that the input does not have.
+#![tactic(auto)]
+
 ghost use Rattle.std.specs.Prelude.{◌≡◌, ◌+◌, ◌*◌};
 
 use io::read_full;

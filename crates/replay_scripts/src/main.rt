@@ -1,4 +1,6 @@
 // Reads a row of scripts (docs/SCRIPT.md) from standard input, each after its length as four bytes, little-endian, and prints their transcripts.
+#![tactic(auto)]
+
 use script_bytes::input::read_number;
 use scripts::run_script;
 

@@ -1,5 +1,7 @@
 // The lines of the sheet that tell how a run ended, how a virtual register stands, and a refusal (01, "The printed sheet"), each stored from the front of
 // a lent line. What a line has no room for is not stored.
+#![tactic(auto)]
+
 ghost use Rattle.reg_matrix.specs.Lines.{refused_line};
 ghost use Rattle.allocator.specs.Sheet.{end_word, end_line, standing as standingOf};
 ghost use Rattle.texts.specs.Texts.{Stored};

@@ -1,4 +1,6 @@
 // Results read from lent words: how a virtual register stands, and the printed sheet line by line.
+#![tactic(auto)]
+
 ghost use Rattle.std.specs.Prelude.{◌≡◌};
 ghost use Rattle.std.proofs.lemmas.List.Edits.{sets};
 ghost use Rattle.lines.specs.LineTexts.{lent};

@@ -1,4 +1,6 @@
 // A run with a budget (`Allocator::run`): dequeues, the greatest key first, until nobody waits, the budget is spent, or too many are live.
+#![tactic(auto)]
+
 ghost use Rattle.std.specs.Prelude.{◌≡◌};
 ghost use Rattle.job.specs.Layout.{slices, lists_in};
 ghost use Rattle.run_loop.specs.Running.{lent_state, ending_number, is_fails, DequeueMade, RunMade};

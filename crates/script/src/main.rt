@@ -1,4 +1,6 @@
 // Reads a script (docs/SCRIPT.md) from standard input and prints its transcript.
+#![tactic(auto)]
+
 use scripts::run_script;
 
 fn main() {

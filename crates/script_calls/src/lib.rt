@@ -1,6 +1,8 @@
 // The calls and questions of a script (docs/SCRIPT.md) on a loaded job, read from standard input as they come, each printed with what it answers. What
 // the lines say is the business of the crate transcript, what the calls do that of the crates below. Here are the calls, one after another; the job that
 // they are made on is loaded in `loading`.
+#![tactic(auto)]
+
 ghost use Rattle.std.specs.Prelude.{◌≤◌};
 ghost use Rattle.script_calls.specs.Calls.{CallTook};
 

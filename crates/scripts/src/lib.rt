@@ -1,5 +1,7 @@
 // Whole scripts (docs/SCRIPT.md): how much of the input a script takes, the bytes of its job, and the line that ends a bad one. Its job is loaded, and
 // its calls are made, in the crate script_calls.
+#![tactic(auto)]
+
 ghost use Rattle.std.specs.Prelude.{◌≤◌};
 
 use lent::part8;

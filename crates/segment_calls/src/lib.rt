@@ -1,5 +1,7 @@
 // The calls of the crates matrix and placing on segments that are taken apart (crate segment_fields). No function here has a slice of structs, so the
 // borrow checker covers each.
+#![tactic(auto)]
+
 ghost use Rattle.std.specs.Prelude.{◌≡◌};
 ghost use Rattle.entries.specs.Moves.{words};
 ghost use Rattle.matrix.specs.Walk.{Answered, lent, entered};

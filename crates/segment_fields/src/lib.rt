@@ -1,5 +1,6 @@
 // Lent segment structs copied and taken apart into three lists of numbers. A function over a slice of structs is proved by a walk of its MIR by hand;
 // whoever has the numbers needs none.
+#![tactic(auto)]
 
 pub mod taking;
 

@@ -1,6 +1,8 @@
 // Lists of at most 255 segment structs in an array that goes by value. The borrow checker covers no function that lends such an array, so for each
 // call one function here lends its first segments and does nothing else: it is proved by a walk of its MIR by hand, and whoever calls the public
 // functions needs none.
+#![tactic(auto)]
+
 ghost use Rattle.std.specs.Prelude.{◌≡◌, false, ◌<◌, ◌≤◌, ltb, take};
 ghost use Rattle.matrix.specs.Walk.{Answered, lent};
 ghost use Rattle.segment_fields.specs.Apart.{froms_of, tos_of, values_of};

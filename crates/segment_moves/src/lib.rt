@@ -1,5 +1,7 @@
 // Placing and evicting one segment on one unit, in the table's lent numbers. The crate placing does it for all segments of a virtual register on all
 // units of a register.
+#![tactic(auto)]
+
 ghost use Rattle.std.specs.Prelude.{◌≡◌, ◌+◌, ◌-◌, ◌*◌, ◌%◌, ◌≤◌, ◌^◌};
 ghost use Rattle.reg_matrix.specs.Layout.{max_entries, max_fixed};
 ghost use Rattle.table_words.specs.Search.{place_of};

@@ -1,4 +1,6 @@
 // Loading a stage: the job, its table, the queue and the last registers.
+#![tactic(auto)]
+
 ghost use Rattle.job.specs.Layout.{slices};
 ghost use Rattle.run_loop.specs.Running.{lent_state};
 ghost use Rattle.stage_loader.specs.StageLoading.{StageLoadDone};

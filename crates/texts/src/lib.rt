@@ -1,4 +1,6 @@
 // Texts and numbers stored in a lent line, one after another. What a line has no room for is not stored.
+#![tactic(auto)]
+
 ghost use Rattle.std.specs.Prelude.{[], ◌∷◌};
 ghost use Rattle.reg_matrix.specs.Lines.{number as decimal, sp};
 ghost use Rattle.texts.specs.Texts.{Stored};

@@ -1,4 +1,6 @@
 // Whether a unit is spare over a range (`RegMatrix::is_unit_free`), asked of the table's lent numbers.
+#![tactic(auto)]
+
 ghost use Rattle.std.specs.Prelude.{◌≡◌, [], ◌∷◌, length};
 ghost use Rattle.reg_matrix.specs.Questions.{spare_refusal};
 ghost use Rattle.entries.specs.Moves.{words};

@@ -1,4 +1,6 @@
 // Reading a job: what stands before a virtual register's hints, one hint and one segment, from bytes, as the parsers of the crate job say.
+#![tactic(auto)]
+
 ghost use Rattle.std.specs.Prelude.{◌≡◌, not, ◌&&◌, ◌/◌, ◌%◌, eqb, drop};
 ghost use Rattle.job.specs.Load.{hint as hintOf, range as range_of, spill_bits, known, virt_reg_fields};
 ghost use Rattle.job.specs.Parser.{if_bit, little};

@@ -1,5 +1,7 @@
 // Reading a job: all its fields, in byte order, from bytes into lent numbers, as the parsers of the crate job say. The tables are read in the crates
 // reader and fields.
+#![tactic(auto)]
+
 ghost use Rattle.std.specs.Prelude.{◌≡◌, drop};
 ghost use Rattle.job.specs.Layout.{slices};
 ghost use Rattle.job.specs.Load.{job_fields};
