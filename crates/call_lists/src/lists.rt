@@ -34,7 +34,7 @@ fn store_numbers(out: &mut [u64], to: usize, refusal: u64, ending: u64, value: u
 
 // A call of a list, by its four words: its kind, a number or a budget, a register, and the bits of a weight. Its answer goes into the answers from
 // place `to` on.
-#[derive(Drop)]
+#[derive(Clone, Copy)]
 struct ListedCall {
     header: JobHeader,
     kind: u64,

@@ -44,7 +44,7 @@ fn wide(x: u8) -> u64
 }
 
 // What a direct call answers: the number of its refusal or 0, the register given or taken away or 0, and the record of its number afterwards.
-#[derive(Drop)]
+#[derive(Clone, Copy)]
 pub struct Answered {
     pub refusal: u64,
     pub reg: u64,
@@ -52,7 +52,7 @@ pub struct Answered {
 }
 
 // A placement that is asked for: of v in the register, with the weight of these binary32 bits.
-#[derive(Drop)]
+#[derive(Clone, Copy)]
 pub struct Placement {
     pub v: u16,
     pub reg: u8,
@@ -132,7 +132,7 @@ impl Placement {
 }
 
 // An eviction that is asked for.
-#[derive(Drop)]
+#[derive(Clone, Copy)]
 pub struct Eviction {
     pub v: u16,
 }

@@ -27,7 +27,7 @@ use stage::allocate::{
 
 // What becomes of a number that is dequeued: it is left over; it takes a register that is clear; it takes one after evicting its holders; it goes back
 // to the queue at stage Split; or the run ends, as too many are live.
-#[derive(Drop)]
+#[derive(Clone, Copy)]
 pub enum Fate {
     Leaves,
     Takes,
@@ -37,7 +37,7 @@ pub enum Fate {
 }
 
 // A dequeue's decision: where a register is taken, which one with which weight, whether the flag turns on, and who is evicted.
-#[derive(Drop)]
+#[derive(Clone, Copy)]
 pub struct Decided {
     pub fate: Fate,
     pub to: CandidateReg,
@@ -127,7 +127,7 @@ fn order_of(
 }
 
 // A number that is dequeued: the stage that it was queued at, its flag, its spill weight, and the order of its candidates.
-#[derive(Drop)]
+#[derive(Clone, Copy)]
 struct Dequeued {
     v: u16,
     stage: Stage,

@@ -14,14 +14,14 @@ use reader::read::{Next, Number, Read, byte, count16, half};
 use virt_reader::{FieldsRead, HintRead, SegmentRead, hint, segment, virt_fields};
 
 // A virtual register's fields, how many hints and segments it has, and the position after it; or a refusal's number.
-#[derive(Drop)]
+#[derive(Clone, Copy)]
 pub enum VirtRead {
     Is(VirtRegFields, u64, u64, usize),
     Refused(u8),
 }
 
 // How many hints and segments the virtual registers have, and the position after them; or a refusal's number.
-#[derive(Drop)]
+#[derive(Clone, Copy)]
 pub enum VirtsRead {
     Is(u64, u64, usize),
     Refused(u8),
@@ -252,7 +252,7 @@ fn virt_regs(
 }
 
 // How many virtual registers, hints and segments there are, and the position after them; or a refusal's number.
-#[derive(Drop)]
+#[derive(Clone, Copy)]
 pub enum VirtTable {
     Is(u16, u64, u64, usize),
     Refused(u8),

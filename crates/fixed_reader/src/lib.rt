@@ -13,21 +13,21 @@ use reader::read::{Next, Number, Read, byte, byte_if, count16, half_if, word_if}
 use reg_matrix::{Entry, Reservation};
 
 // The fields of a reservation with the position after them; or the bytes end inside them.
-#[derive(Drop)]
+#[derive(Clone, Copy)]
 pub enum FixedRead {
     Is(FixedFields, usize),
     Short,
 }
 
 // A reservation that passed its tests, or a refusal's number.
-#[derive(Drop)]
+#[derive(Clone, Copy)]
 pub enum EntryTest {
     Is(Entry),
     Refused(u8),
 }
 
 // The same with the position after it.
-#[derive(Drop)]
+#[derive(Clone, Copy)]
 pub enum EntryRead {
     Is(Entry, usize),
     Refused(u8),

@@ -2,14 +2,14 @@
 #![tactic(auto)]
 
 // 01, "The job": a register that a virtual register would like, with the cost of not getting it.
-#[derive(Drop)]
+#[derive(Clone, Copy)]
 pub struct Hint {
     pub reg: u8,
     pub weight: f32,
 }
 
 // 01, "The job": the fields of a fixed reservation, as they stand in a job.
-#[derive(Drop)]
+#[derive(Clone, Copy)]
 pub struct FixedFields {
     pub map: u8,
     pub unit: u8,
@@ -19,7 +19,7 @@ pub struct FixedFields {
 }
 
 // 01, "The job": what stands before the hints of a virtual register.
-#[derive(Drop)]
+#[derive(Clone, Copy)]
 pub struct VirtRegFields {
     pub map: u8,
     pub class: u8,
@@ -29,14 +29,14 @@ pub struct VirtRegFields {
 }
 
 // 01, "The printed sheet": the range that the spare line asks about, if the job has one.
-#[derive(Drop)]
+#[derive(Clone, Copy)]
 pub enum Probe {
     Over(u32, u32),
     NoProbe,
 }
 
 // 01, "The job": what goes by value of a loaded job: how many registers, classes and virtual registers there are, the probe range and the budget.
-#[derive(Drop)]
+#[derive(Clone, Copy)]
 pub struct JobHeader {
     pub regs: u8,
     pub classes: u8,

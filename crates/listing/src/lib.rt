@@ -9,7 +9,7 @@ pub mod sheet;
 
 // Which line is next: the first, that of a virtual register, or that of an entry of the table. Past the last virtual register the entries are next,
 // past the last entry the spare line.
-#[derive(Drop)]
+#[derive(Clone, Copy)]
 pub enum Place {
     Head,
     VirtReg(u16),
@@ -18,7 +18,7 @@ pub enum Place {
 }
 
 // A position in the sheet of a run with this ending and as many dequeues, of a job with this header.
-#[derive(Drop)]
+#[derive(Clone, Copy)]
 pub struct Listing {
     pub ending: Ending,
     pub dequeues: u64,
@@ -28,7 +28,7 @@ pub struct Listing {
 
 // What the next line is: so many bytes of the lent line, with the position after it; or there is none; or the number of a refusal, which has
 // stored nothing.
-#[derive(Drop)]
+#[derive(Clone, Copy)]
 pub enum Step {
     Line(usize, Listing),
     End,

@@ -14,14 +14,14 @@ use lent::{from8, from16, from32};
 use whole_fields::{JobRead, TableSizes, job_fields};
 
 // What the first reading found: what goes by value of the job, and the sizes of its tables; or a refusal's number.
-#[derive(Drop)]
+#[derive(Clone, Copy)]
 pub enum JobTested {
     Is(JobHeader, TableSizes),
     Refused(u8),
 }
 
 // What loading answers: what goes by value of the job, or a refusal's number.
-#[derive(Drop)]
+#[derive(Clone, Copy)]
 pub enum JobLoaded {
     Is(JobHeader),
     Refused(u8),

@@ -9,7 +9,7 @@ pub mod check;
 
 // A position of a check: the units of the register's map that are still to be walked, the current one the lowest; the segment and the
 // entry that are compared next; 0, or one more than the place of the next fixed use under that entry; and which form is asked for.
-#[derive(Drop)]
+#[derive(Clone, Copy)]
 pub struct Cursor {
     pub units: u64,
     pub segment: usize,
@@ -19,7 +19,7 @@ pub struct Cursor {
 }
 
 // One step of a check: it meets something and goes on, goes on, or ends.
-#[derive(Drop)]
+#[derive(Clone, Copy)]
 pub enum Move {
     Meets(Interference, Cursor),
     Goes(Cursor),
@@ -27,14 +27,14 @@ pub enum Move {
 }
 
 // What a check answers: a report with the next position, or its end.
-#[derive(Drop)]
+#[derive(Clone, Copy)]
 pub enum Step {
     Report(Interference, Cursor),
     End,
 }
 
 // How a check starts: at a position, or refused with the refusal's number.
-#[derive(Drop)]
+#[derive(Clone, Copy)]
 pub enum Start {
     Checking(Cursor),
     Refused(u8),

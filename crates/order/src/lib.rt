@@ -11,21 +11,21 @@ ghost use Rattle.order.specs.OrderWalk.{hints_of, zipped, listed, reg_place, wei
 use allocator::CandidateReg;
 
 // The register last given to a member of a set, if there is one.
-#[derive(Drop)]
+#[derive(Clone, Copy)]
 pub enum Last {
     Reg(u8),
     NoReg,
 }
 
 // How many hinted candidates there are, and in bit r whether register r is one of them.
-#[derive(Drop)]
+#[derive(Clone, Copy)]
 pub struct AllocationOrder {
     pub count: usize,
     pub hinted: u64,
 }
 
 // What stands at a place of the order: a candidate, a register of the class that was hinted already, or nothing more.
-#[derive(Drop)]
+#[derive(Clone, Copy)]
 pub enum Offer {
     Reg(CandidateReg),
     Skip,

@@ -17,7 +17,7 @@ use sheets::Printing;
 use sheets::sheet::next;
 
 // What was written: whether all of it, and of how many bytes the writes were that succeeded.
-#[derive(Drop)]
+#[derive(Clone, Copy)]
 pub struct Written {
     pub whole: bool,
     pub bytes: usize,

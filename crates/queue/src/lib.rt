@@ -10,7 +10,7 @@ ghost use Rattle.queue.specs.QueueWalk.{key_of, decoded, play_at, set_word, firs
 use allocator::Stage;
 
 // Whose turn it is, and the stage that it waits at.
-#[derive(Drop)]
+#[derive(Clone, Copy)]
 pub enum Next {
     Nobody,
     Number(u16, Stage),

@@ -5,21 +5,21 @@ ghost use Rattle.job.specs.Parser.{if_bit};
 ghost use Rattle.reader.specs.Read.{Little, Field, Num};
 
 // A number with the position after it; or the bytes end inside it.
-#[derive(Drop)]
+#[derive(Clone, Copy)]
 pub enum Read {
     Value(u64, usize),
     Short,
 }
 
 // A number with the position after it, or a refusal's number.
-#[derive(Drop)]
+#[derive(Clone, Copy)]
 pub enum Number {
     Is(u64, usize),
     Refused(u8),
 }
 
 // The position after what was read, or a refusal's number.
-#[derive(Drop)]
+#[derive(Clone, Copy)]
 pub enum Next {
     At(usize),
     Refused(u8),

@@ -3,7 +3,7 @@
 #![tactic(auto)]
 
 // 01, "The job": a part of a virtual register's live range, half-open, with the value that lives in it. A point's low two bits are its slot.
-#[derive(Drop)]
+#[derive(Clone, Copy)]
 pub struct ValueSegment {
     pub from: u32,
     pub to: u32,
@@ -11,14 +11,14 @@ pub struct ValueSegment {
 }
 
 // 01, "Placing": the place of a fixed use among the fixed uses of its unit, if a held entry has replaced any.
-#[derive(Drop)]
+#[derive(Clone, Copy)]
 pub enum FixedIndex {
     At(u16),
     NoIndex,
 }
 
 // 01, "The printed sheet": who an entry is for: a virtual register, a fixed use of a value, or a fixed def.
-#[derive(Drop)]
+#[derive(Clone, Copy)]
 pub enum Reservation {
     Held(u16, FixedIndex),
     FixedUse(u16),
@@ -26,7 +26,7 @@ pub enum Reservation {
 }
 
 // 01, "The printed sheet": an entry of the table. The range is half-open.
-#[derive(Drop)]
+#[derive(Clone, Copy)]
 pub struct Entry {
     pub unit: u8,
     pub from: u32,
@@ -35,14 +35,14 @@ pub struct Entry {
 }
 
 // 01, "Check": what a check meets: a fixed reservation, which cannot be evicted, or a virtual register, which can.
-#[derive(Drop)]
+#[derive(Clone, Copy)]
 pub enum InterferenceKind {
     Fixed,
     VirtReg(u16),
 }
 
 // 01, "Check": a report, with the unit, the place of the segment among those that were asked about, the range, and what stands in the way.
-#[derive(Drop)]
+#[derive(Clone, Copy)]
 pub struct Interference {
     pub unit: u8,
     pub segment: usize,

@@ -110,7 +110,7 @@ pub fn classes(
 }
 
 // How many classes there are, how many registers they have, and the position after them; or a refusal's number.
-#[derive(Drop)]
+#[derive(Clone, Copy)]
 pub enum ClassesRead {
     Is(u8, u64, usize),
     Refused(u8),

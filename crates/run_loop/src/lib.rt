@@ -11,7 +11,7 @@ use decisions::{Fate, decide};
 use queue::{Next, greatest};
 
 // How a run ended, and after how many dequeues.
-#[derive(Drop)]
+#[derive(Clone, Copy)]
 pub struct RunEnd {
     pub ending: Ending,
     pub dequeues: u64,
@@ -48,7 +48,7 @@ fn is_over(fate: Fate) -> bool
 }
 
 // A number that waits, and at which stage.
-#[derive(Drop)]
+#[derive(Clone, Copy)]
 struct Queued {
     number: u16,
     stage: Stage,

@@ -19,7 +19,7 @@ use transcript::states;
 pub mod loading;
 
 // A call or a question as it was read, of a job with this header: its kind and its arguments.
-#[derive(Drop)]
+#[derive(Clone, Copy)]
 struct Call {
     header: JobHeader,
     kind: u64,
@@ -29,7 +29,7 @@ struct Call {
 }
 
 // What comes next in a script: a call or a question; its end; or what is bad, of no known kind or not all there.
-#[derive(Drop)]
+#[derive(Clone, Copy)]
 enum CallRead {
     Is(Call),
     End,

@@ -17,14 +17,14 @@ use segment_lists::{check_list, next_in_list};
 use unit_free::{UnitFree, is_unit_free};
 
 // One segment that was read, or that the script ended inside it.
-#[derive(Drop)]
+#[derive(Clone, Copy)]
 enum SegmentRead {
     Is(ValueSegment),
     Cut,
 }
 
 // The segments of a check: whether they were all there, and the list, which is empty behind them.
-#[derive(Drop)]
+#[derive(Clone, Copy)]
 struct SegmentsRead {
     whole: bool,
     list: [ValueSegment; 255],

@@ -5,7 +5,7 @@
 pub mod taking;
 
 // Segments taken apart: the fields of the first `count` ones, and whether there were more than have room.
-#[derive(Drop)]
+#[derive(Clone, Copy)]
 pub struct Fields {
     pub count: usize,
     pub long: bool,

@@ -6,7 +6,7 @@ use listing::Listing;
 pub mod sheet;
 
 // What a job's bytes print: the number of a refusal, or the lines from a position on.
-#[derive(Drop)]
+#[derive(Clone, Copy)]
 pub enum Printing {
     Refused(u8),
     At(Listing),

@@ -16,7 +16,7 @@ use matrix::check::enter;
 use order::{AllocationOrder, Offer, candidate};
 
 // The first candidate that is clear; or none is; or there are no candidates.
-#[derive(Drop)]
+#[derive(Clone, Copy)]
 pub enum Available {
     Clear(CandidateReg),
     NoneClear,
@@ -24,7 +24,7 @@ pub enum Available {
 }
 
 // The best candidate to evict from so far, at what cost, and whom.
-#[derive(Drop)]
+#[derive(Clone, Copy)]
 pub struct Best {
     pub found: bool,
     pub to: CandidateReg,

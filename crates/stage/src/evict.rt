@@ -16,7 +16,7 @@ use reg_matrix::InterferenceKind;
 
 // What a check's reports say of a candidate: the cost with each holder counted once, the holders' weights added at every report, who the
 // holders are, and whether a fixed report rules the candidate out.
-#[derive(Drop)]
+#[derive(Clone, Copy)]
 pub struct Tried {
     pub cost: EvictCost,
     pub every_report: f32,
@@ -26,7 +26,7 @@ pub struct Tried {
 
 // What a search still wants of a candidate of this weight. By cost: that its holders may be evicted for a number with this flag and spill weight, and
 // cost less than the best so far. Else: that their weights, added at every report, stay below its own.
-#[derive(Drop)]
+#[derive(Clone, Copy)]
 pub struct Limit {
     pub by_cost: bool,
     pub weight: f32,

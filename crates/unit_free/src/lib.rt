@@ -10,7 +10,7 @@ use lent::at;
 use table_words::search::find;
 
 // Whether a unit is spare over a range: free, taken, or the number of a refusal.
-#[derive(Drop)]
+#[derive(Clone, Copy)]
 pub enum UnitFree {
     Free,
     Taken,

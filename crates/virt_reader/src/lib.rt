@@ -12,21 +12,21 @@ use reader::read::{Number, Read, byte, half, known8, known16, word, word_if};
 use reg_matrix::ValueSegment;
 
 // A segment with the position after it, or a refusal's number.
-#[derive(Drop)]
+#[derive(Clone, Copy)]
 pub enum SegmentRead {
     Is(ValueSegment, usize),
     Refused(u8),
 }
 
 // A hint with the position after it, or a refusal's number.
-#[derive(Drop)]
+#[derive(Clone, Copy)]
 pub enum HintRead {
     Is(Hint, usize),
     Refused(u8),
 }
 
 // What stands before a virtual register's hints with the position after it, or a refusal's number.
-#[derive(Drop)]
+#[derive(Clone, Copy)]
 pub enum FieldsRead {
     Is(VirtRegFields, usize),
     Refused(u8),

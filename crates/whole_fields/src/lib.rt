@@ -16,21 +16,21 @@ use reader::read::{Number, Read, byte, word, word_if};
 use reg_reader::{ClassesRead, class_table, reg_table};
 
 // The probe range with the position after it, or a refusal's number.
-#[derive(Drop)]
+#[derive(Clone, Copy)]
 pub enum ProbeRead {
     Is(Probe, usize),
     Refused(u8),
 }
 
 // How many fixed reservations and segments a job has, which the header does not count.
-#[derive(Drop)]
+#[derive(Clone, Copy)]
 pub struct TableSizes {
     pub fixed: usize,
     pub segments: usize,
 }
 
 // What goes by value of the job, the sizes of its tables, and the position after it; or a refusal's number.
-#[derive(Drop)]
+#[derive(Clone, Copy)]
 pub enum JobRead {
     Is(JobHeader, TableSizes, usize),
     Refused(u8),
@@ -63,7 +63,7 @@ fn probe_range(s: &[u8], at: usize, stands: bool) -> ProbeRead
 }
 
 // The header's map, and how many registers, classes and fixed reservations there are.
-#[derive(Drop)]
+#[derive(Clone, Copy)]
 pub struct FirstTables {
     pub map: u8,
     pub regs: u8,
@@ -72,7 +72,7 @@ pub struct FirstTables {
 }
 
 // The same with the position after these tables, or a refusal's number.
-#[derive(Drop)]
+#[derive(Clone, Copy)]
 pub enum FirstRead {
     Is(FirstTables, usize),
     Refused(u8),

@@ -7,10 +7,10 @@ use Rattle.lent.proofs.from8.Tie as tie
 sub-result : tie.Need-overflow-sub-result
 sub-result c = search rules
 
-part-result-start : tie.Need-slice-bounds-result-start
+part-result-start : tie.Need-slice_bounds-result-start
 part-result-start c = search rules
 
-part-result-end : tie.Need-slice-bounds-result-end
+part-result-end : tie.Need-slice_bounds-result-end
 part-result-end c = search rules
 
 returns : tie.Need-returns
@@ -19,10 +19,10 @@ returns c = sym (none_from _ _ c.before.if1.true)
 sub-result-2 : tie.Need-overflow-sub-result-2
 sub-result-2 c = search rules
 
-part-result-start-2 : tie.Need-slice-bounds-result-start-2
+part-result-start-2 : tie.Need-slice_bounds-result-start-2
 part-result-start-2 c = search rules
 
-part-result-end-2 : tie.Need-slice-bounds-result-end-2
+part-result-end-2 : tie.Need-slice_bounds-result-end-2
 part-result-end-2 c = search rules
 
 returns-2 : tie.Need-returns-2

@@ -20,7 +20,7 @@ loop-holds c = (refl, refl)
 put-requires : tie.Need-put-requires invariant-loop decreases-loop
 put-requires c κs = search rules
 
-add-i : tie.Need-overflow-add-i invariant-loop decreases-loop
+add-i : tie.Need-overflow_add-i invariant-loop decreases-loop
 add-i c = search rules
 
 loop-less : tie.Need-loop-smaller invariant-loop decreases-loop

@@ -20,7 +20,7 @@ loop-holds c = (refl, refl)
 put16-requires : tie.Need-put16-requires invariant-loop decreases-loop
 put16-requires c κs = search rules
 
-add-i : tie.Need-overflow-add-i invariant-loop decreases-loop
+add-i : tie.Need-overflow_add-i invariant-loop decreases-loop
 add-i c = search rules
 
 loop-less : tie.Need-loop-smaller invariant-loop decreases-loop

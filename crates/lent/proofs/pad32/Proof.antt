@@ -20,7 +20,7 @@ loop-holds c = (refl, refl)
 put32-requires : tie.Need-put32-requires invariant-loop decreases-loop
 put32-requires c κs = search rules
 
-add-i : tie.Need-overflow-add-i invariant-loop decreases-loop
+add-i : tie.Need-overflow_add-i invariant-loop decreases-loop
 add-i c = search rules
 
 loop-less : tie.Need-loop-smaller invariant-loop decreases-loop

@@ -18,10 +18,10 @@ decreases-loop s₀ from to i₀ s i = to - i
 loop-holds : tie.Need-loop-init invariant-loop decreases-loop
 loop-holds c = (refl, refl)
 
-put-float-requires : tie.Need-put-float-requires invariant-loop decreases-loop
+put-float-requires : tie.Need-put_float-requires invariant-loop decreases-loop
 put-float-requires c κs = search rules
 
-add-i : tie.Need-overflow-add-i invariant-loop decreases-loop
+add-i : tie.Need-overflow_add-i invariant-loop decreases-loop
 add-i c = search rules
 
 loop-less : tie.Need-loop-smaller invariant-loop decreases-loop
