@@ -1,0 +1,6 @@
+use borrow.Author.Rules.{rules}
+use Rattle.lent.proofs.Laws.{all_filled}
+use Rattle.lent.proofs.zero32.Goals as goal
+
+pub returns : goal.returns
+returns c = all_filled _ _ _ c.pad32.ensures
