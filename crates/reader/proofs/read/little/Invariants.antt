@@ -1,0 +1,15 @@
+-- The loop's invariant: the bytes from `at + i` on are read, and give v.
+use Prim.Native.Nat.{◌+◌, ◌-◌, ◌≤◌, ◌<◌, ◌^◌}
+use borrow.Author.Rules.{rules}
+use native.Mathlib.Omega.{arith}
+use mathlib.Core.Path.{◌≡◌, sym}
+use lib.ListN.{length, drop, length-drop}
+use Rattle.job.specs.Parser.{parsed, little}
+use Rattle.reader.proofs.Answers.{little_short, pow_fits, pow_pos, turn_small, turn_reads}
+use Rattle.reader.proofs.read.little.Given as goal
+
+abbrev pub invariant-loop-i : goal.invariant-loop-i
+invariant-loop-i l = (l.i ≤ l.n) × (l.at + l.n ≤ length l.s) × (l.v < 256 ^ (l.n - l.i)) × (little (l.n - l.i) (drop (l.at + l.i) l.s) ≡ parsed l.v (drop (l.at + l.n) l.s))
+
+abbrev pub decreases-loop-i : goal.decreases-loop-i
+decreases-loop-i l = l.i
