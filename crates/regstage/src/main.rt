@@ -1,7 +1,9 @@
 // Reads a job from standard input and prints its sheet, or `refused N` alone (01, "The printed sheet"). A read that fails ends the input.
 #![tactic(auto)]
 
-use libc::{STDIN_FILENO, STDOUT_FILENO};
+// The descriptors of standard input and output.
+const STDIN_FILENO: i32 = 0;
+const STDOUT_FILENO: i32 = 1;
 
 fn main() {
     // one byte more than a job may have: a longer one is refused by its length, so what follows needs no reading

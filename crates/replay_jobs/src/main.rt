@@ -6,8 +6,11 @@ ghost use Rattle.std.specs.Prelude.{◌≡◌, ◌+◌, ◌*◌};
 
 use io::read_full;
 use lent::part8;
-use libc::{STDIN_FILENO, STDOUT_FILENO};
 use printer::write_sheet;
+
+// The descriptors of standard input and output.
+const STDIN_FILENO: i32 = 0;
+const STDOUT_FILENO: i32 = 1;
 
 // The number of four bytes, the lowest first.
 fn number_of(a: u8, b: u8, c: u8, d: u8) -> usize
