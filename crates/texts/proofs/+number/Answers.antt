@@ -6,8 +6,5 @@ use Rattle.texts.proofs.+number.Goals as goal
 pub returns-then-n-lt10 : goal.returns-then-n-lt10
 returns-then-n-lt10 t c = laws.named (sym (number_one c.args.n c.if-n-lt10.true)) c.byte.ensures
 
-pub number-next-requires : goal.number-next-requires
-number-next-requires t c = ?
-
 pub returns : goal.returns
-returns t c = laws.named (sym (number_more c.args.n (omega (arith, c.if-n-lt10.false)) (omega arith))) (laws.then c.number-next.ensures c.byte.ensures)
+returns t c = laws.named (sym (number_more c.args.n (omega (arith, c.if-n-lt10.false)) (omega arith))) (laws.then c.number-next.ensures c.byte-2.ensures)
