@@ -1,0 +1,16 @@
+-- The invariant: the places from here on are the rest of the whole.
+use borrow.Author.Rules.{rules}
+use Prim.Native.Nat.{◌-◌}
+use mathlib.Core.Path.{◌≡◌, refl, sym, ◌∙◌}
+use lib.Dec.{eqb}
+use lib.ListN.{get_or}
+use borrow.Author.Tests.{eq-eqb, ne_eqb}
+use Rattle.reg_matrix.specs.Lists.{any, count}
+use Rattle.reg_matrix.proofs.Places.{any_more, any_end}
+use Rattle.job_tests.proofs.tests.map_among.Given as goal
+
+abbrev pub invariant-loop-k : goal.invariant-loop-k
+invariant-loop-k l = any (λ j. eqb l.x (get_or l.maps j 0)) (count l.from (l.to - l.from)) ≡ any (λ j. eqb l.x (get_or l.maps j 0)) (count l.k (l.to - l.k))
+
+abbrev pub decreases-loop-k : goal.decreases-loop-k
+decreases-loop-k l = l.to - l.k
