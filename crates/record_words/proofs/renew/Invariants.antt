@@ -1,0 +1,10 @@
+use borrow.Author.Rules.{rules}
+use Prim.Native.Nat.{◌-◌}
+use Rattle.record_words.proofs.WordLaws.{Renewing, renew_start, renew_more, store_end, store_back}
+use Rattle.record_words.proofs.renew.Given as goal
+
+abbrev pub invariant-loop-i : goal.invariant-loop-i
+invariant-loop-i l = Renewing l.initial.words l.words l.i
+
+abbrev pub decreases-loop-i : goal.decreases-loop-i
+decreases-loop-i l = 512 - l.i
