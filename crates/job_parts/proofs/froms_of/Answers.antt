@@ -1,0 +1,6 @@
+use borrow.Author.Rules.{rules}
+use mathlib.Core.Path.{◌∙◌}
+use Rattle.job_parts.proofs.froms_of.Goals as goal
+
+pub returns : goal.returns
+returns c = c.of32.ensures ∙ rw c.from16.ensures
