@@ -1,0 +1,11 @@
+use borrow.Author.Rules.{rules}
+use mathlib.Core.Path.{◌≡◌, refl, sym, ◌∙◌}
+use Rattle.matrix.specs.Walk.{lent, left, next_of}
+use Rattle.matrix.proofs.Walks.{answered, next_goes, goes_less, next_meets, next_ends}
+use Rattle.matrix.proofs.Cursor.next.Given as goal
+
+abbrev pub invariant-loop-report : goal.invariant-loop-report
+invariant-loop-report l = next_of (lent l.ends l.rests l.uses l.froms l.tos l.values) l.c ≡ next_of (lent l.ends l.rests l.uses l.froms l.tos l.values) l.initial.c
+
+abbrev pub decreases-loop-report : goal.decreases-loop-report
+decreases-loop-report l = left (lent l.ends l.rests l.uses l.froms l.tos l.values) l.c
