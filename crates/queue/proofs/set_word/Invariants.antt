@@ -1,0 +1,15 @@
+use borrow.Author.Rules.{rules}
+use Prim.Native.Nat.{◌<◌}
+use native.Mathlib.Omega.{arith}
+use mathlib.Core.Path.{◌≡◌, refl, sym, ◌∙◌}
+use lib.ListN.{length, length-set}
+use borrow.Author.Tests.{lt-ltb, le-ltb}
+use Rattle.queue.specs.QueueWalk.{climb, set_word}
+use Rattle.queue.proofs.Turns as laws
+use Rattle.queue.proofs.set_word.Given as goal
+
+abbrev pub invariant-loop-left : goal.invariant-loop-left
+invariant-loop-left l = (l.i < 1024) × (length l.queue ≡ length l.initial.queue) × (climb l.left l.queue l.i ≡ climb 9 l.initial.queue l.initial.i)
+
+abbrev pub decreases-loop-left : goal.decreases-loop-left
+decreases-loop-left l = l.left
