@@ -1,3 +1,1 @@
 pub mod ApartLaws
-pub mod Arrays
-pub mod Calling

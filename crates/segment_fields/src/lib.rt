@@ -1,5 +1,4 @@
-// Lent segment structs copied and taken apart into three lists of numbers. A function over a slice of structs is proved by a walk of its MIR by hand;
-// whoever has the numbers needs none.
+// Lent segment structs copied and taken apart into three lists of numbers.
 #![tactic(auto)]
 
 pub mod taking;

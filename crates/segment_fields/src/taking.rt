@@ -1,5 +1,4 @@
-// Taking segments apart (specs/Apart.antt). The loop over the lent structs, which is proved by a walk of its MIR by hand, only copies them into an
-// array; their fields are taken from there, in a function that the borrow checker covers. So no array is copied for each segment.
+// Taking segments apart (specs/Apart.antt). The loop over the lent structs only copies them into an array; their fields are taken from there.
 ghost use Rattle.std.specs.Prelude.{◌≡◌, min, ltb, take};
 ghost use Rattle.segment_fields.specs.Apart.{fields_of, taken_apart};
 
