@@ -1,0 +1,18 @@
+use borrow.Author.Rules.{rules}
+use Prim.Native.Nat.{ℕ, ◌≤◌, ◌-◌}
+use native.Mathlib.Omega.{arith}
+use mathlib.Core.Path.{◌≡◌, refl, sym, ◌∙◌}
+use mathlib.Core.List.{List}
+use lib.ListN.{length}
+use Rattle.reg_matrix.specs.Lists.{ascii}
+use Rattle.texts.specs.Texts.{Stored}
+use Rattle.lines.specs.LineTexts.{lent, is_spare, units_text, spare_text}
+use Rattle.texts.proofs.StoreLaws as laws
+use Rattle.lines.proofs.SpareLaws as spares
+use Rattle.lines.proofs.free_units_line.Given as goal
+
+abbrev pub invariant-loop-unit : goal.invariant-loop-unit
+invariant-loop-unit l = (l.unit ≤ 64) × (length l.line ≡ length l.initial.line) × ((t : List ℕ) (k : ℕ) → Stored l.line l.at (units_text (is_spare (lent l.maps l.ends l.rests) l.regs l.from l.to) l.unit) t k → Stored l.initial.line l.initial.at (units_text (is_spare (lent l.maps l.ends l.rests) l.regs l.from l.to) 0) t k)
+
+abbrev pub decreases-loop-unit : goal.decreases-loop-unit
+decreases-loop-unit l = 64 - l.unit

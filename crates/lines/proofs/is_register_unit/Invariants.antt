@@ -1,0 +1,13 @@
+use borrow.Author.Rules.{rules}
+use Prim.Native.Nat.{◌≤◌, ◌-◌}
+use native.Mathlib.Omega.{arith}
+use mathlib.Core.Path.{◌≡◌, sym, ◌∙◌}
+use Rattle.lines.specs.LineTexts.{is_register_unit}
+use Rattle.lines.proofs.SpareLaws as laws
+use Rattle.lines.proofs.is_register_unit.Given as goal
+
+abbrev pub invariant-loop-i : goal.invariant-loop-i
+invariant-loop-i l = (l.i ≤ l.regs) × (laws.unit_from l.maps l.regs l.unit l.i ≡ is_register_unit l.maps l.regs l.unit)
+
+abbrev pub decreases-loop-i : goal.decreases-loop-i
+decreases-loop-i l = l.regs - l.i
