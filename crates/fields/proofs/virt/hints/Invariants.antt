@@ -1,0 +1,19 @@
+-- The invariant: the hints read so far are stored, and the rest from here is the rest of the whole.
+use borrow.Author.Rules.{rules}
+use Prim.Native.Nat.{◌+◌, ◌-◌}
+use native.Mathlib.Omega.{arith}
+use mathlib.Core.Path.{◌≡◌}
+use mathlib.Core.List.{List, [], ◌∷◌, ◌++◌}
+use lib.ListN.{length}
+use Rattle.job.specs.declared.Hint.{Hint}
+use Rattle.job.specs.Load.{hint}
+use Rattle.reader.proofs.Reading.{Reading, begin, more, stops, ends}
+use Rattle.reader.proofs.Stores.{none_stored, more_stored, stored_length}
+use Rattle.fields.specs.Virt.{HintsAt}
+use Rattle.fields.proofs.virt.hints.Given as goal
+
+abbrev pub invariant-loop-i : goal.invariant-loop-i
+invariant-loop-i l = (before : List Hint) × Reading l.s (λ before. hint l.regs) l.count l.start l.i l.at before × HintsAt l.h l.initial.j8 l.initial.jf l.j8 l.jf before
+
+abbrev pub decreases-loop-i : goal.decreases-loop-i
+decreases-loop-i l = l.count - l.i
