@@ -125,6 +125,7 @@ module _ (p : Entry → Bool) (k : Entry) (pass : p k ≡ true) where
 
 -- of a sorted table, nothing but k has its unit and end
 around_before : (k : Entry) (xs ys : Table) → Sorted (xs ++ k ∷ ys) → (e : Entry) → e ∈ xs → T (before e k)
+around_before k [] ys so e x'' = elim x'' [ ]
 around_before k (x ∷ xs) ys so e (Memᴰ.head q) = subst (λ (z : Entry). T (before z k)) (sym q) (below_out x so.0 (Memᴰ.append_right xs (Memᴰ.head refl)))
 around_before k (x ∷ xs) ys so e (Memᴰ.tail m) = around_before k xs ys so.1 e m
 

@@ -1,0 +1,15 @@
+use borrow.Author.Rules.{rules}
+use Prim.Native.Nat.{◌-◌}
+use mathlib.Core.Path.{◌≡◌, refl, sym, ◌∙◌}
+use mathlib.Core.List.{[]}
+use lib.ListN.{length, drop}
+use Rattle.entries.specs.Moves.{words}
+use Rattle.entries.specs.Placing.{assigning_unit}
+use Rattle.placing.proofs.PlacingWalks.{unit_more, unit_end}
+use Rattle.placing.proofs.assign.assign_unit.Given as goal
+
+abbrev pub invariant-loop-i : goal.invariant-loop-i
+invariant-loop-i l = (length l.ends ≡ length l.initial.ends) × (length l.rests ≡ length l.initial.rests) × (assigning_unit l.uses l.v l.unit (drop l.i l.froms) (drop l.i l.tos) (words l.ends l.rests) ≡ assigning_unit l.uses l.v l.unit l.froms l.tos (words l.initial.ends l.initial.rests))
+
+abbrev pub decreases-loop-i : goal.decreases-loop-i
+decreases-loop-i l = length l.froms - l.i

@@ -1,0 +1,17 @@
+use borrow.Author.Rules.{rules}
+use Prim.Native.Nat.{◌≤◌}
+use native.Mathlib.Omega.{arith}
+use mathlib.Core.Path.{◌≡◌, refl, sym, ◌∙◌}
+use mathlib.Core.List.{[]}
+use lib.ListN.{length}
+use lib.Count.{trailing_le}
+use Rattle.entries.specs.Moves.{words}
+use Rattle.entries.specs.Placing.{assigning}
+use Rattle.placing.proofs.PlacingWalks.{units_more, units_end}
+use Rattle.placing.proofs.assign.assign_units.Given as goal
+
+abbrev pub invariant-loop-left : goal.invariant-loop-left
+invariant-loop-left l = (l.left ≤ l.map) × (length l.ends ≡ length l.initial.ends) × (length l.rests ≡ length l.initial.rests) × (assigning l.uses l.v l.left l.froms l.tos (words l.ends l.rests) ≡ assigning l.uses l.v l.map l.froms l.tos (words l.initial.ends l.initial.rests))
+
+abbrev pub decreases-loop-left : goal.decreases-loop-left
+decreases-loop-left l = l.left
