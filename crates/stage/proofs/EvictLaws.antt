@@ -165,10 +165,10 @@ module _ (j : Job) (s : State) (ws : List Float) (ss : List Float)
       rw (held v m.0, spill v m.0) in
       cost_over_lem (holder_cost ws ss k v) vs m.1 ∙ ap (λ (c : EvictCost). rule_cost c vs) one
 
-  sum_over : (w : Float) (vs : List ℕ) → Small vs → sum_over ws ss w vs ≡ foldl (λ w v. add binary32 w (weight_of (held_by s v))) w vs
+  sum_over_lem : (w : Float) (vs : List ℕ) → Small vs → sum_over ws ss w vs ≡ foldl (λ w v. add binary32 w (weight_of (held_by s v))) w vs
   unfolding foldl
-  sum_over w [] m = refl
-  sum_over w (v ∷ vs) m = rw (held v m.0) (sum_over (add binary32 w (weight_of (held_by s v))) vs m.1)
+  sum_over_lem w [] m = refl
+  sum_over_lem w (v ∷ vs) m = rw (held v m.0) (sum_over_lem (add binary32 w (weight_of (held_by s v))) vs m.1)
 
   first_small : (seen hs : List ℕ) → Small hs → Small (firsts seen hs)
   unfolding firsts
@@ -193,7 +193,7 @@ module _ (j : Job) (s : State) (ws : List Float) (ss : List Float)
       record {
         clean = q.clean;
         cost = q.cost ∙ cost_over_lem zero_cost (firsts [] (holders xs)) (first_small [] (holders xs) m);
-        every = q.every ∙ sum_over zero_weight (holders xs) m;
+        every = q.every ∙ sum_over_lem zero_weight (holders xs) m;
         who = λ v h. q.who.place v h ∙ has_before v (holders xs) [] ∙ or_none v;
       }
     where

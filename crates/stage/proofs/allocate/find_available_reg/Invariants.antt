@@ -1,0 +1,20 @@
+-- The invariant: the walk over the candidates from place i on finds what the whole walk finds. Assumes nothing.
+use borrow.Author.Rules.{rules}
+use Prim.Native.Nat.{◌+◌, ◌-◌, ◌≤◌}
+use native.Mathlib.Omega.{arith}
+use mathlib.Core.Path.{◌≡◌, refl, sym, ◌∙◌}
+use mathlib.Core.List.{List}
+use mathlib.Core.Bool.{false}
+use lib.ListN.{length}
+use Rattle.matrix.specs.Walk.{lent}
+use Rattle.allocator.specs.declared.CandidateReg.{CandidateReg}
+use Rattle.order.specs.OrderWalk.{Computed, offers_from}
+use Rattle.stage.specs.AllocateWalk.{available_in}
+use Rattle.stage.proofs.AllocateLaws.{clear_is, available_end, available_skip, available_clear, available_not, available_past}
+use Rattle.stage.proofs.allocate.find_available_reg.Given as goal
+
+abbrev pub invariant-loop-i : goal.invariant-loop-i
+invariant-loop-i l = (l.i ≤ 129) × ((hs : List CandidateReg) → Computed l.order l.regs l.weights hs → length hs + length l.class ≤ 129 → available_in (lent l.ends l.rests l.uses l.froms l.tos l.values) l.maps l.tried (offers_from hs l.class l.i) ≡ available_in (lent l.ends l.rests l.uses l.froms l.tos l.values) l.maps false (offers_from hs l.class 0))
+
+abbrev pub decreases-loop-i : goal.decreases-loop-i
+decreases-loop-i l = 129 - l.i

@@ -1,0 +1,21 @@
+-- The invariant: the search over the hinted candidates from place i on finds what the whole search finds. Assumes nothing.
+use borrow.Author.Rules.{rules}
+use Prim.Native.Nat.{◌-◌, ◌≤◌}
+use native.Mathlib.Omega.{arith}
+use mathlib.Core.Path.{◌≡◌, refl, sym, ◌∙◌}
+use mathlib.Core.List.{List}
+use lib.ListN.{length, drop}
+use Rattle.matrix.specs.Walk.{lent}
+use Rattle.allocator.specs.declared.CandidateReg.{CandidateReg}
+use Rattle.record_words.specs.Words.{held_in}
+use Rattle.order.specs.OrderWalk.{Computed}
+use Rattle.stage.specs.AllocateWalk.{prefer_in}
+use Rattle.order.proofs.OrderLaws.{computed_length, hinted_at_lem}
+use Rattle.stage.proofs.AllocateLaws.{tried_is, prefer_end, prefer_yes, prefer_no}
+use Rattle.stage.proofs.allocate.try_evict_for_preferred_reg.Given as goal
+
+abbrev pub invariant-loop-i : goal.invariant-loop-i
+invariant-loop-i l = (l.i ≤ 65) × ((hs : List CandidateReg) → Computed l.order l.regs l.weights hs → length hs ≤ 65 → prefer_in (lent l.ends l.rests l.uses l.froms l.tos l.values) l.maps (held_in l.words) l.spills l.clear (drop l.i hs) ≡ prefer_in (lent l.ends l.rests l.uses l.froms l.tos l.values) l.maps (held_in l.words) l.spills l.clear hs)
+
+abbrev pub decreases-loop-i : goal.decreases-loop-i
+decreases-loop-i l = 65 - l.i
