@@ -1,6 +1,5 @@
 // Calls over a lent slice of segment structs: each takes the structs apart into three lists of numbers (crate segment_fields) and leaves the work to
-// the call on them (crate segment_calls). A function over such a slice is proved by a walk of its MIR by hand, so all else stands in functions
-// without one. The crate segment_lists has the check for callers that have the structs in an array.
+// the call on them (crate segment_calls). The crate segment_lists has the check for callers that have the structs in an array.
 #![tactic(auto)]
 
 pub mod assign;
