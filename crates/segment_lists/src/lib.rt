@@ -1,6 +1,4 @@
-// Lists of at most 255 segment structs in an array that goes by value. The borrow checker covers no function that lends such an array, so for each
-// call one function here lends its first segments and does nothing else: it is proved by a walk of its MIR by hand, and whoever calls the public
-// functions needs none.
+// Lists of at most 255 segment structs in an array that goes by value. For each call one function here lends its first segments and does nothing else.
 #![tactic(auto)]
 
 ghost use Rattle.std.specs.Prelude.{◌≡◌, false, ◌<◌, ◌≤◌, ltb, take};
