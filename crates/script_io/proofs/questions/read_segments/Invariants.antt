@@ -1,0 +1,14 @@
+-- What was left is what is left now and ten bytes for each segment read so far. Assumes nothing.
+use borrow.Author.Rules.{rules}
+use Prim.Native.Nat.{◌-◌, ◌+◌, ◌*◌, ◌≤◌}
+use native.Mathlib.Omega.{arith}
+use mathlib.Core.Path.{◌≡◌, ap}
+use Rattle.script_io.specs.Segments.{is_whole}
+use Rattle.script_bytes.proofs.ReadLaws.{all_took, less_took}
+use Rattle.script_io.proofs.questions.read_segments.Given as goal
+
+abbrev pub invariant-loop-i : goal.invariant-loop-i
+invariant-loop-i l = (l.i ≤ l.n) × (l.left + 10 * l.i ≡ l.initial.left)
+
+abbrev pub decreases-loop-i : goal.decreases-loop-i
+decreases-loop-i l = l.n - l.i
