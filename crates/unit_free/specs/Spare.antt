@@ -1,4 +1,4 @@
--- The spare question on lent numbers, in the shape of the code: u is a unit. The law free-stands ties it to Questions.antt. Assumes nothing.
+-- The spare question on lent numbers, in the shape of the code: u is a unit. The law free_stands ties it to Questions.antt. Assumes nothing.
 use Rattle.std.specs.Prelude.{ℕ, ◌+◌, ◌*◌, ◌/◌, ◌^◌, Bool, true, false, not, ◌&&◌, ltb, leb, eqb, get_or}
 use Rattle.std.proofs.Math.Option.{Option, none, some}
 use Rattle.reg_matrix.specs.Layout.{max_entries}
