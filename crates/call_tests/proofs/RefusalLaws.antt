@@ -104,13 +104,13 @@ good_finite (fin n m e) h = h
 -- a value that carries the sign
 bad_signed : (x t : ℕ) → T (bad_weight (of_fields binary32 true x t))
 unfolding of_fields
-bad_signed zero t = bad_odd _ t 0 _
+bad_signed zero t = bad_odd (prec binary32) t 0 (low binary32)
 bad_signed (suc x) t = go (eqb (suc x) (ones binary32)) (eqb t 0)
   where
     go : (a b : Bool) → T (bad_weight (cond a (cond b (inf true) nan) (odd (prec binary32) true (hid binary32 + t) x (low binary32))))
     go true true = tt
     go true false = tt
-    go false b = bad_odd _ (hid binary32 + t) x _
+    go false b = bad_odd (prec binary32) (hid binary32 + t) x (low binary32)
 
 bad_above : (b : ℕ) → 0x7F80_0000 ≤ b → T (bad_weight (of_bits binary32 b))
 unfolding of_bits of_fields

@@ -1,0 +1,15 @@
+-- The invariant: the numbers from here on are the rest of the whole.
+use borrow.Author.Rules.{rules}
+use Prim.Native.Nat.{◌-◌}
+use mathlib.Core.Path.{◌≡◌, sym, ◌∙◌}
+use native.Mathlib.Omega.{arith}
+use Rattle.reg_matrix.specs.Lists.{any, count}
+use Rattle.call_tests.specs.Testing.{hinted_at}
+use Rattle.reg_matrix.proofs.Places.{any_more, any_end}
+use Rattle.call_tests.proofs.set_names.Given as goal
+
+abbrev pub invariant-loop-k : goal.invariant-loop-k
+invariant-loop-k l = any (hinted_at l.sets l.starts l.hints l.set l.reg) (count 0 l.n) ≡ any (hinted_at l.sets l.starts l.hints l.set l.reg) (count l.k (l.n - l.k))
+
+abbrev pub decreases-loop-k : goal.decreases-loop-k
+decreases-loop-k l = l.n - l.k
