@@ -3,7 +3,7 @@ use mathlib.Core.Path.{refl, sym, ◌∙◌}
 use lib.Seq.{length-take-le}
 use Rattle.job.specs.Layout.{slices}
 use Rattle.run_loop.specs.Running.{lent_state}
-use Rattle.pezhkadu.proofs.RunLaws.{records_short, answer_short, run_short, run_done}
+use Rattle.pezhkadu.proofs.RunLaws.{records_short, answer_short, run_short_lem, run_done}
 use Rattle.pezhkadu.proofs.running.pezhkadu_run.Statement.{statement}
 use Rattle.pezhkadu.proofs.running.pezhkadu_run.Tie as tie
 
@@ -29,7 +29,7 @@ same-length-4 : tie.Need-same-length-4
 same-length-4 c = search rules
 
 returns-3 : tie.Need-returns-3
-returns-3 c = run_short (slices c.before.before.before.before.before.before.before.before.before.before.before.before.before.before.before.before.before.before.before.args.j64.now c.before.before.before.before.before.before.before.before.before.before.before.before.before.before.before.before.before.before.before.args.j32.now c.before.before.before.before.before.before.before.before.before.before.before.before.before.before.before.before.before.before.before.args.j16.now c.before.before.before.before.before.before.before.before.before.before.before.before.before.before.before.before.before.before.before.args.j8.now c.before.before.before.before.before.before.before.before.before.before.before.before.before.before.before.before.before.before.before.args.jf.now) _ (lent_state c.before.before.before.before.before.before.before.before.before.before.before.before.before.before.before.before.before.before.before.args.ends.now c.before.before.before.before.before.before.before.before.before.before.before.before.before.before.before.before.before.before.before.args.rests.now c.before.before.before.before.before.before.before.before.before.before.before.before.before.before.before.before.before.before.before.args.queue.now c.before.before.before.before.before.before.before.before.before.before.before.before.before.before.before.before.before.before.before.args.last.now) _ _ c.before.before.before.before.before.before.before.if1.false c.before.before.before.before.before.before.if2.false (sym c.before.short-buffers.ensures ∙ c.if3.true)
+returns-3 c = run_short_lem (slices c.before.before.before.before.before.before.before.before.before.before.before.before.before.before.before.before.before.before.before.args.j64.now c.before.before.before.before.before.before.before.before.before.before.before.before.before.before.before.before.before.before.before.args.j32.now c.before.before.before.before.before.before.before.before.before.before.before.before.before.before.before.before.before.before.before.args.j16.now c.before.before.before.before.before.before.before.before.before.before.before.before.before.before.before.before.before.before.before.args.j8.now c.before.before.before.before.before.before.before.before.before.before.before.before.before.before.before.before.before.before.before.args.jf.now) _ (lent_state c.before.before.before.before.before.before.before.before.before.before.before.before.before.before.before.before.before.before.before.args.ends.now c.before.before.before.before.before.before.before.before.before.before.before.before.before.before.before.before.before.before.before.args.rests.now c.before.before.before.before.before.before.before.before.before.before.before.before.before.before.before.before.before.before.before.args.queue.now c.before.before.before.before.before.before.before.before.before.before.before.before.before.before.before.before.before.before.before.args.last.now) _ _ c.before.before.before.before.before.before.before.if1.false c.before.before.before.before.before.before.if2.false (sym c.before.short-buffers.ensures ∙ c.if3.true)
 
 renew-requires : tie.Need-renew-requires
 renew-requires c κs = search rules
