@@ -17,8 +17,7 @@ use words::header::{header_of, short_words};
 // Places the virtual register v in the register, with the weight of these binary32 bits. The answer is 0, or the number of the refusal, and then
 // nothing is changed: 15 where a slice is short, 8 where there is no such number or register or v may not have it, 9 where the weight is infinite, no
 // number or has the sign, 13 where v is not unassigned, 14 where the check reports anything.
-#[unsafe(no_mangle)]
-pub extern "C" fn pezhkadu_assign(
+pub fn pezhkadu_assign(
     header: &[u64],
     records: &mut [u64],
     v: u64,
@@ -56,8 +55,7 @@ pub extern "C" fn pezhkadu_assign(
 
 // Evicts the virtual register v, and stores the register that it held in the answer's first word. The answer is 0, or the number of the refusal, and
 // then nothing is changed: 15 where a slice is short, 8 where there is no such number, 13 where v holds no register.
-#[unsafe(no_mangle)]
-pub extern "C" fn pezhkadu_evict(
+pub fn pezhkadu_evict(
     header: &[u64],
     records: &mut [u64],
     v: u64,

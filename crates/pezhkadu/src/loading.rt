@@ -27,8 +27,7 @@ fn store_answer(loaded: JobLoaded, header: &mut [u64], records: &mut [u64]) -> u
 // Loads the job of these bytes: its header and the records as they start out into words, the job, the table, the queue and the last registers into
 // the other slices. The answer is 0, or the number of the refusal, and then nothing is changed: 15 where a slice is short, then the job's length (4),
 // its fields in byte order, 2, 10, 11, 12.
-#[unsafe(no_mangle)]
-pub extern "C" fn pezhkadu_load(
+pub fn pezhkadu_load(
     bytes: &[u8],
     header: &mut [u64],
     records: &mut [u64],

@@ -7,8 +7,7 @@ use results::{sheet_line, standing};
 
 // How the virtual register v stands: 0 it waits, 1 it is left over, 256 + r it holds the register r. Refused with 15 where a slice is short, with 8
 // where there is no such number.
-#[unsafe(no_mangle)]
-pub extern "C" fn pezhkadu_standing(header: &[u64], records: &[u64], v: u64) -> u64
+pub fn pezhkadu_standing(header: &[u64], records: &[u64], v: u64) -> u64
     ensures { result ≡ standing_answer header.now records.now v }
 {
     standing(header, records, v)
@@ -17,8 +16,7 @@ pub extern "C" fn pezhkadu_standing(header: &[u64], records: &[u64], v: u64) -> 
 // Stores the line of the sheet at this position from the front of `line`, and its length and the position after it in `next`; past the last line the
 // length is 0 and the position 2^64 - 1. Positions start at 0. `answer` is what the run answered, its word's number and its dequeues. The answer is 0,
 // or 15 where a slice is short, and then nothing is changed.
-#[unsafe(no_mangle)]
-pub extern "C" fn pezhkadu_sheet_line(
+pub fn pezhkadu_sheet_line(
     header: &[u64],
     records: &[u64],
     answer: &[u64],

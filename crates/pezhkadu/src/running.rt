@@ -10,8 +10,7 @@ use run_loop::{ending_number, run_on};
 
 // Runs with a budget of so many dequeues. The answer takes the number of the run's word, 1 for done, 2 for spent and 3 for toomany, and how many
 // dequeues it made. Refused with 15 where a slice is short, and then nothing is changed.
-#[unsafe(no_mangle)]
-pub extern "C" fn pezhkadu_run(
+pub fn pezhkadu_run(
     records: &mut [u64],
     budget: u64,
     j64: &[u64],
