@@ -1,0 +1,11 @@
+use borrow.Author.Rules.{rules}
+use Prim.Native.Nat.{◌-◌}
+use mathlib.Core.Path.{◌≡◌, refl, ◌∙◌}
+use lib.ListN.{length}
+use Rattle.script_calls.proofs.print_entries.Given as goal
+
+abbrev pub invariant-loop-i : goal.invariant-loop-i
+invariant-loop-i l = length l.line ≡ length l.initial.line
+
+abbrev pub decreases-loop-i : goal.decreases-loop-i
+decreases-loop-i l = 2560 - l.i
