@@ -1,6 +1,7 @@
-/* The register stage as a static library (crates/pezhkadu, built by `rt staticlib pezhkadu`).
+/* The register stage as a static library: `rt lib` in crates/pezhkadu_c writes crates/pezhkadu_c/out/libpezhkadu_c.a,
+ * and firmware/test copies it to target/staticlib/libpezhkadu.a.
  *
- * Every function is proved to meet its contract in crates/pezhkadu/src. What is proved says nothing of a caller in C,
+ * Every function is proved to meet its contract in crates/pezhkadu_c/src. What is proved says nothing of a caller in C,
  * who answers for this alone: each pointer points to as many numbers as the length after it says (never null, even
  * where the length is 0, and aligned for its type), no two slices of one call overlap, and nothing else reads or
  * writes them during the call. A slice that is too short is refused with 15; a longer one keeps its tail.

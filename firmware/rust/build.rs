@@ -1,5 +1,5 @@
-//! Links `target/staticlib/libpezhkadu.a` of the repository, which `rt staticlib pezhkadu` writes; the folder may be
-//! named in `PEZHKADU_LIB` instead.
+//! Links `target/staticlib/libpezhkadu.a` of the repository, which `firmware/test` makes; the folder may be named in
+//! `PEZHKADU_LIB` instead.
 use std::env;
 use std::path::PathBuf;
 
@@ -11,7 +11,7 @@ fn main() {
     };
     let archive = folder.join("libpezhkadu.a");
     if !archive.exists() {
-        panic!("{} is not there: run `rt staticlib pezhkadu` first", archive.display());
+        panic!("{} is not there: run `firmware/test` first", archive.display());
     }
     println!("cargo:rustc-link-search=native={}", folder.display());
     println!("cargo:rustc-link-lib=static=pezhkadu");
