@@ -3,6 +3,7 @@
 
 // The descriptors of standard input and output.
 const STDIN_FILENO: i32 = 0;
+
 const STDOUT_FILENO: i32 = 1;
 
 fn main() {
