@@ -10,6 +10,7 @@ use printer::write_sheet;
 
 // The descriptors of standard input and output.
 const STDIN_FILENO: i32 = 0;
+
 const STDOUT_FILENO: i32 = 1;
 
 // The number of four bytes, the lowest first.
