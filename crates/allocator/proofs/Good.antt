@@ -13,7 +13,6 @@ use Rattle.job.specs.Model.{Job}
 use Rattle.job.specs.Load.{Bytes, loaded}
 use Rattle.job.proofs.Premises.{Premises, IsNumber, IsReg}
 use Rattle.allocator.specs.State.{State, CandidateReg, Stage, fresh_state, held_by, is_left_over, check_of, give, lose, lose_held, evict_number, requeue, leave}
-use Rattle.allocator.specs.Order.{candidate}
 use Rattle.allocator.specs.Queue.{Queued}
 use Rattle.allocator.specs.Dequeue.{Decision, takes, decide, Step, goes_on, too_many, evict_all, dequeue, state_of}
 use Rattle.allocator.specs.Run.{Ran, ran, Done, next_of, run_from, run}

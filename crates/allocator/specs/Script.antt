@@ -9,12 +9,12 @@ use Rattle.reg_matrix.specs.Lines.{number, sp, line, refused_line, table_lines, 
 use Rattle.reg_matrix.specs.Questions.{Checked, not_checked, checked, check_limits, ask_check, Spared, not_asked, is_spare, table_limits, ask_spare}
 use Rattle.reg_matrix.specs.declared.ValueSegment.{ValueSegment}
 use Rattle.job.specs.Model.{Job}
-use Rattle.job.specs.Parser.{Parsed, refused, parsed, Parser, ◌>>=◌, ◌>>◌, done, each, little}
+use Rattle.job.specs.Parser.{Parsed, refused, parsed, Parser, ◌>>=◌, done, each, little}
 use Rattle.job.specs.Load.{Loaded, not_loaded, loaded}
 use Rattle.allocator.specs.State.{State, Stage, Assignment, Assigned, Unassigned, Dead, record_of, fresh_state}
 use Rattle.allocator.specs.Queue.{encode}
 use Rattle.allocator.specs.Layout.{stage_limits}
-use Rattle.allocator.specs.Calls.{load, Call, placing, evicting, running, Answer, refused as refusedBy, placed, evicted, ended, answer_of, after}
+use Rattle.allocator.specs.Calls.{load, Call, placing, evicting, running, Answer, refused as refused_by, placed, evicted, ended, answer_of, after}
 use Rattle.allocator.specs.Sheet.{end_line}
 
 -- docs/SCRIPT.md: a call that may change the stage; a check of segments on a register, in full or short form; whether a unit is spare over a range
@@ -137,7 +137,7 @@ state_lines j s =
 
 -- docs/SCRIPT.md: what a call answers
 abbrev pub answer_line : Answer → List ℕ
-answer_line (refusedBy n) = refused_line n
+answer_line (refused_by n) = refused_line n
 answer_line (placed r) = line (ascii "ok")
 answer_line (evicted r) = line (ascii "ok")
 answer_line (ended w n) = end_line w n

@@ -1,6 +1,6 @@
 // The virtual registers of a job, with their hints and segments.
 ghost use Rattle.std.specs.Prelude.{◌≡◌, [], ◌+◌, ◌-◌, ◌/◌, ◌%◌, ◌≤◌, ◌<◌, eqb, length, drop};
-ghost use Rattle.job.specs.Load.{hint as hintOf, segment as segmentOf, hint_count, segment_count, hints as hints_of, segments as segments_of, virt_reg_at, virt_reg_after};
+ghost use Rattle.job.specs.Load.{hint as hint_of, segment as segment_of, hint_count, segment_count, hints as hints_of, segments as segments_of, virt_reg_at, virt_reg_after};
 ghost use Rattle.job.specs.Parser.{each, if_bit};
 ghost use Rattle.reader.specs.Read.{Num, Outcome, Counted, table_of};
 ghost use Rattle.fields.specs.Virt.{HintsAt, SegmentsAt, FieldsAt, VirtsAt, VirtOut, VirtsOut, TableOut};
@@ -37,7 +37,7 @@ fn segments(
     j16: &mut [u16],
 ) -> Next
     requires { g + count ≤ 512 }
-    ensures { Outcome s.now (each segmentOf count [] (drop start s.now)) result (SegmentsAt g j32.old j16.old j32.new j16.new) }
+    ensures { Outcome s.now (each segment_of count [] (drop start s.now)) result (SegmentsAt g j32.old j16.old j32.new j16.new) }
 {
     let mut at = start;
     let mut past: u32 = 0;
@@ -122,7 +122,7 @@ fn hints(
     jf: &mut [f32],
 ) -> Next
     requires { h + count ≤ 1024 }
-    ensures { Outcome s.now (each (λ before. hintOf regs) count [] (drop start s.now)) result (HintsAt h j8.old jf.old j8.new jf.new) }
+    ensures { Outcome s.now (each (λ before. hint_of regs) count [] (drop start s.now)) result (HintsAt h j8.old jf.old j8.new jf.new) }
 {
     let mut at = start;
     let mut i = 0;

@@ -26,7 +26,7 @@ use Rattle.job.specs.declared.VirtRegFields.{VirtRegFields}
 use Rattle.job.specs.Model.{VirtReg, Job}
 use Rattle.job.specs.Parser.{Parsed, refused, parsed, Parser, and_then, ◌>>=◌, done, if_bit, each, little}
 use Rattle.job.specs.Load.{count_of, known, bad_spill_bits, bad_hint_bits, register, class, fixed_fields, last_end, fixed_range, fixed_tests, reservation, hint, range, past_of, segment, hints_in, segments_in, hint_count, segment_count, hints, segments, spill_bits, virt_reg_fields, virt_reg_at, virt_reg_after, job_fields, twin, mixed_set, cut_use, whole_job, not_loaded, loaded, as_loaded, load_with, Bytes}
-use Rattle.job.proofs.Premises.{Plain, Finite, SmallSegment, GoodSlots, GoodSegment, GoodProbe}
+use Rattle.job.proofs.Premises.{Plain, Finite, GoodSegment, GoodProbe}
 use Rattle.job.proofs.Readers.{Left, Got, got_done, got_bit, got_cond, got_then, got_so, got_refuse, got_little, got_number, got_each}
 use Rattle.job.proofs.Lists.{Each, each_none, Pairs, each_more, pairs_more, foldl_more, last_to, ended_more}
 use Rattle.job.proofs.Weights.{neither, plain_spill, finite_hint}

@@ -17,7 +17,7 @@ use Rattle.job.specs.declared.FixedFields.{FixedFields}
 use Rattle.job.specs.declared.VirtRegFields.{VirtRegFields}
 use Rattle.job.specs.Model.{VirtReg}
 use Rattle.job.specs.Parser.{Parser, Parsed, refused, parsed, if_bit, and_then, each}
-use Rattle.job.specs.Load.{count_of, class, past_of, last_end, fixed_fields, fixed_tests, reservation, hints_in, segments_in, virt_reg_fields, hints, segments, virt_reg_at}
+use Rattle.job.specs.Load.{count_of, past_of, last_end, fixed_fields, fixed_tests, reservation, hints_in, segments_in, virt_reg_fields, hints, segments, virt_reg_at}
 use Rattle.job.specs.Layout.{starts_from}
 use Rattle.reader.specs.Read.{Stored, reservation_after, hints_of_all, segments_of_all}
 use Rattle.reg_matrix.specs.Lists.{bit}

@@ -1,6 +1,6 @@
 -- What the code's readers promise, in the terms of the parsers of Load.antt: a position stands for the bytes that follow it, and what was read
 -- is stored in lent slices from some place on, where there is room. Assumes nothing.
-use Rattle.std.specs.Prelude.{ℕ, ◌+◌, ◌≤◌, ◌<◌, ◌^◌, ◌≡◌, List, [], map, Bool, Float, drop, length, get_or}
+use Rattle.std.specs.Prelude.{ℕ, ◌+◌, ◌≤◌, ◌<◌, ◌^◌, ◌≡◌, List, [], map, Bool, drop, length, get_or}
 use Rattle.std.proofs.lemmas.List.Edits.{sets}
 use Rattle.reg_matrix.specs.Lists.{concat_map}
 use Rattle.reg_matrix.specs.declared.ValueSegment.{ValueSegment}
@@ -8,7 +8,6 @@ use Rattle.reg_matrix.specs.declared.Entry.{Entry}
 use Rattle.reg_matrix.specs.declared.Reservation.{Reservation}
 use Rattle.reg_matrix.specs.declared.Reservation.TheVariants.{Held, FixedUse, FixedDef}
 use Rattle.job.specs.declared.Hint.{Hint}
-use Rattle.job.specs.declared.FixedFields.{FixedFields}
 use Rattle.reader.specs.declared.read.Read.{Read}
 use Rattle.reader.specs.declared.read.Read.TheVariants.{Value, Short}
 use Rattle.reader.specs.declared.read.Number.{Number}

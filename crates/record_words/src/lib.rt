@@ -85,7 +85,7 @@ pub fn held_at(words: &[u64], i: usize) -> f32
 // weights are no NaN and carry no sign.
 pub fn store(records: [Assignment; 512], words: &mut [u64])
     ensures words_after { words.new ≡ sets words.old 0 (map record_word records) }
-    ensures words_after_2 { AllPlain records → 512 ≤ length words.old → records_in words.new ≡ records }
+    ensures read_back { AllPlain records → 512 ≤ length words.old → records_in words.new ≡ records }
 {
     let mut i: usize = 0;
     while i < 512 {

@@ -2,7 +2,7 @@
 #![tactic(auto)]
 
 ghost use Rattle.std.specs.Prelude.{[], ◌+◌, ◌*◌, ◌≤◌, length, drop};
-ghost use Rattle.job.specs.Load.{register as registerOf, known as known_of, class as class_of};
+ghost use Rattle.job.specs.Load.{register as register_of, known as known_of, class as class_of};
 ghost use Rattle.job.specs.Parser.{each};
 ghost use Rattle.reader.specs.Read.{Num, Outcome, Counted, Stored, ClassesAt, all_members, table_of};
 ghost use Rattle.reg_reader.specs.Classes.{ClassesOut};
@@ -12,7 +12,7 @@ use reader::read::{Next, Number, Read, count8, known8, long};
 
 // The map of units at `at`: of 1 to 4 units.
 fn register(s: &[u8], at: usize) -> Number
-    ensures { Num s.now at registerOf 18446744073709551615 result }
+    ensures { Num s.now at register_of 18446744073709551615 result }
 {
     let Read::Value(m, next) = long(s, at) else {
         return Number::Refused(1);
@@ -28,7 +28,7 @@ fn register(s: &[u8], at: usize) -> Number
 
 // The registers, stored from place 0 on.
 pub fn registers(s: &[u8], start: usize, count: u8, maps: &mut [u64]) -> Next
-    ensures { Outcome s.now (each (λ before. registerOf) count [] (drop start s.now)) result (λ ms. Stored (λ x. x) maps.old 0 ms maps.new) }
+    ensures { Outcome s.now (each (λ before. register_of) count [] (drop start s.now)) result (λ ms. Stored (λ x. x) maps.old 0 ms maps.new) }
 {
     let mut at = start;
     let mut i: usize = 0;
@@ -118,7 +118,7 @@ pub enum ClassesRead {
 
 // The registers where their bit stands: how many, and the position after them.
 pub fn reg_table(s: &[u8], at: usize, stands: bool, maps: &mut [u64]) -> Number
-    ensures { Counted s.now (table_of stands 1 64 (λ before. registerOf) (drop at s.now)) length 64 result (λ ms. Stored (λ x. x) maps.old 0 ms maps.new) }
+    ensures { Counted s.now (table_of stands 1 64 (λ before. register_of) (drop at s.now)) length 64 result (λ ms. Stored (λ x. x) maps.old 0 ms maps.new) }
 {
     match count8(s, at, stands, 64) {
         Number::Refused(n) => Number::Refused(n),

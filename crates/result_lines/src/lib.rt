@@ -3,7 +3,7 @@
 #![tactic(auto)]
 
 ghost use Rattle.reg_matrix.specs.Lines.{refused_line};
-ghost use Rattle.allocator.specs.Sheet.{end_word, end_line, standing as standingOf};
+ghost use Rattle.allocator.specs.Sheet.{end_word, end_line, standing as standing_of};
 ghost use Rattle.texts.specs.Texts.{Stored};
 ghost use Rattle.result_lines.specs.ResultTexts.{standing_text};
 
@@ -40,7 +40,7 @@ pub fn refused_line(line: &mut [u8], n: u64) -> usize
 }
 
 fn standing(line: &mut [u8], at: usize, assignment: Assignment) -> usize
-    ensures { Stored line.old at (standingOf assignment) line.new result }
+    ensures { Stored line.old at (standing_of assignment) line.new result }
 {
     match assignment {
         Assignment::Assigned {

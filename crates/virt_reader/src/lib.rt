@@ -2,7 +2,7 @@
 #![tactic(auto)]
 
 ghost use Rattle.std.specs.Prelude.{◌≡◌, not, ◌&&◌, ◌/◌, ◌%◌, eqb, drop};
-ghost use Rattle.job.specs.Load.{hint as hintOf, range as range_of, spill_bits, known, virt_reg_fields};
+ghost use Rattle.job.specs.Load.{hint as hint_of, range as range_of, spill_bits, known, virt_reg_fields};
 ghost use Rattle.job.specs.Parser.{if_bit, little};
 ghost use Rattle.reader.specs.Read.{Num};
 ghost use Rattle.virt_reader.specs.Parts.{hint_view, segment_view, fields_view};
@@ -69,7 +69,7 @@ pub fn segment(s: &[u8], at: usize, past: u32) -> SegmentRead
 
 // The hint at `at`, of one of `regs` registers. The greatest bits of a finite weight are those before infinity's.
 pub fn hint(s: &[u8], at: usize, regs: u64) -> HintRead
-    ensures { hint_view s.now result ≡ hintOf regs (drop at s.now) }
+    ensures { hint_view s.now result ≡ hint_of regs (drop at s.now) }
 {
     let Read::Value(r, at1) = byte(s, at) else {
         return HintRead::Refused(1);

@@ -1,4 +1,3 @@
-use borrow.Author.Rules.{rules}
 use mathlib.Core.Path.{sym}
 use Rattle.reader.proofs.Answers.{short, took, took_small, short_field, took_field, field_small}
 use Rattle.job.specs.Load.{fixed_fields}

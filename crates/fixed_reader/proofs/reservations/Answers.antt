@@ -1,15 +1,11 @@
-use borrow.Author.Rules.{rules}
-use Prim.Native.Nat.{◌+◌, ◌-◌}
+use Prim.Native.Nat.{◌+◌}
 use native.Mathlib.Omega.{arith}
 use mathlib.Core.Path.{◌≡◌, sym, ◌∙◌}
-use mathlib.Core.List.{List, [], ◌∷◌, ◌++◌}
+use mathlib.Core.List.{[], ◌∷◌, ◌++◌}
 use lib.ListN.{length}
-use Rattle.reg_matrix.specs.declared.Entry.{Entry}
-use Rattle.job.specs.Load.{reservation}
-use Rattle.reader.specs.Read.{FixedAt}
-use Rattle.reader.proofs.Reading.{Reading, begin, more, stops, ends as finish}
+use Rattle.reader.proofs.Reading.{begin, more, stops, ends as finish}
 use Rattle.reader.proofs.Stores.{none_stored, more_stored, stored_length}
-use Rattle.reader.proofs.Tables.{Ends, ends_none, ends_more, after_ends}
+use Rattle.reader.proofs.Tables.{ends_none, ends_more, after_ends}
 use Rattle.fixed_reader.proofs.reservations.Goals as goal
 
 pub loop-i-init : goal.loop-i-init

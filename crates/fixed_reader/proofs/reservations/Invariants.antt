@@ -1,16 +1,11 @@
 -- The invariant: the reservations read so far are stored, `ends` has the ends of the last ones, and the rest from here is the rest of the whole.
-use borrow.Author.Rules.{rules}
-use Prim.Native.Nat.{◌+◌, ◌-◌}
-use native.Mathlib.Omega.{arith}
-use mathlib.Core.Path.{◌≡◌, sym, ◌∙◌}
-use mathlib.Core.List.{List, [], ◌∷◌, ◌++◌}
-use lib.ListN.{length}
+use Prim.Native.Nat.{◌-◌}
+use mathlib.Core.List.{List}
 use Rattle.reg_matrix.specs.declared.Entry.{Entry}
 use Rattle.job.specs.Load.{reservation}
 use Rattle.reader.specs.Read.{FixedAt}
-use Rattle.reader.proofs.Reading.{Reading, begin, more, stops, ends as finish}
-use Rattle.reader.proofs.Stores.{none_stored, more_stored, stored_length}
-use Rattle.reader.proofs.Tables.{Ends, ends_none, ends_more, after_ends}
+use Rattle.reader.proofs.Reading.{Reading}
+use Rattle.reader.proofs.Tables.{Ends}
 use Rattle.fixed_reader.proofs.reservations.Given as goal
 
 abbrev pub invariant-loop-i : goal.invariant-loop-i

@@ -1,4 +1,3 @@
-use borrow.Author.Rules.{rules}
 use mathlib.Core.Path.{sym, ap}
 use Rattle.reader.specs.Read.{use_number}
 use Rattle.fixed_reader.proofs.use_number.Goals as goal

@@ -1,4 +1,3 @@
-use borrow.Author.Rules.{rules}
 use mathlib.Core.Path.{◌∙◌}
 use Rattle.job_parts.specs.Shares.{share_of}
 use Rattle.job_parts.proofs.of_float.Goals as goal

@@ -1,4 +1,3 @@
-use borrow.Author.Rules.{rules}
 use mathlib.Core.Path.{sym}
 use Rattle.lent.proofs.Laws.{none_from, all_from}
 use Rattle.lent.proofs.from.Goals as goal

@@ -1,10 +1,8 @@
 -- The invariant: the stores from here on are the rest of the whole.
-use borrow.Author.Rules.{rules}
 use Prim.Native.Nat.{◌-◌}
-use mathlib.Core.Path.{◌≡◌, refl, sym, ◌∙◌}
+use mathlib.Core.Path.{◌≡◌}
 use lib.ListN.{length, replicate}
 use lib.Seq.{sets}
-use Rattle.lent.proofs.Laws.{pad_more, pad_end}
 use Rattle.lent.proofs.pad16.Given as goal
 
 abbrev pub invariant-loop-i : goal.invariant-loop-i

@@ -1,4 +1,3 @@
-use borrow.Author.Rules.{rules}
 use mathlib.Core.Path.{sym}
 use Rattle.lent.proofs.Laws.{turned, inside, past}
 use Rattle.lent.proofs.part32.Goals as goal

@@ -1,4 +1,3 @@
-use borrow.Author.Rules.{rules}
 use mathlib.Core.Path.{sym}
 use Rattle.lent.proofs.Laws.{turned, inside, past}
 use Rattle.lent.proofs.part8.Goals as goal

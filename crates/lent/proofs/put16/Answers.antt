@@ -1,6 +1,5 @@
 use mathlib.Core.Path.{sym}
 use lib.Seq.{set_out}
-use borrow.Author.Rules.{rules}
 use Rattle.lent.proofs.put16.Goals as goal
 
 pub returns-else-i-s : goal.returns-else-i-s

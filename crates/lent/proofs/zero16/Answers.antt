@@ -1,4 +1,3 @@
-use borrow.Author.Rules.{rules}
 use Rattle.lent.proofs.Laws.{all_filled}
 use Rattle.lent.proofs.zero16.Goals as goal
 

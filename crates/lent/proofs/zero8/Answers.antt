@@ -1,4 +1,3 @@
-use borrow.Author.Rules.{rules}
 use Rattle.lent.proofs.Laws.{all_filled}
 use Rattle.lent.proofs.zero8.Goals as goal
 

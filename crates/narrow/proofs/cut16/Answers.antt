@@ -1,4 +1,3 @@
-use borrow.Author.Rules.{rules}
 use Rattle.narrow.proofs.CutLaws.{uncut, cut_off}
 use Rattle.narrow.proofs.cut16.Goals as goal
 

@@ -1,4 +1,3 @@
-use borrow.Author.Rules.{rules}
 use mathlib.Core.Path.{sym}
 use Rattle.order.proofs.OrderLaws as laws
 use Rattle.order.proofs.hint_count.Goals as goal

@@ -1,4 +1,3 @@
-use borrow.Author.Rules.{rules}
 use Rattle.order.proofs.is_hinted.Goals as goal
 
 pub returns-then-r-lt64 : goal.returns-then-r-lt64

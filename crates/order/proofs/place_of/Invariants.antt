@@ -1,12 +1,7 @@
-use borrow.Author.Rules.{rules}
 use Prim.Native.Nat.{◌≤◌, ◌+◌, ◌-◌}
-use native.Mathlib.Omega.{arith}
-use mathlib.Core.Path.{◌≡◌, ap, sym, ◌∙◌}
-use lib.Ieee.{lt}
+use mathlib.Core.Path.{◌≡◌}
 use lib.ListN.{take, drop}
-use Rattle.job.specs.Model.{zero_weight}
 use Rattle.order.specs.OrderWalk.{weight_place}
-use Rattle.order.proofs.OrderLaws as laws
 use Rattle.order.proofs.place_of.Given as goal
 
 abbrev pub invariant-loop-i : goal.invariant-loop-i

@@ -13,4 +13,4 @@ pub shape_of-words : goal.shape_of-words
 shape_of-words c = c.loop-i.invariant.kept
 
 pub returns : goal.returns
-returns c = record { words_after = store_end c.loop-i.invariant c.loop-i-test.false; words_after_2 = store_back c.loop-i.invariant c.loop-i-test.false }
+returns c = record { words_after = store_end c.loop-i.invariant c.loop-i-test.false; read_back = store_back c.loop-i.invariant c.loop-i-test.false }

@@ -1,13 +1,10 @@
-use borrow.Author.Rules.{rules}
-use Prim.Native.Nat.{ℕ, ◌+◌, ◌-◌}
+use Prim.Native.Nat.{◌+◌}
 use native.Mathlib.Omega.{arith}
 use mathlib.Core.Path.{◌≡◌}
-use mathlib.Core.List.{List, [], ◌∷◌, ◌++◌}
+use mathlib.Core.List.{[], ◌∷◌, ◌++◌}
 use lib.ListN.{length}
-use Rattle.job.specs.Load.{known}
-use Rattle.reader.specs.Read.{Stored}
 use Rattle.reader.proofs.Answers.{no_num, took_num, num_small}
-use Rattle.reader.proofs.Reading.{Reading, begin, more, stops, ends}
+use Rattle.reader.proofs.Reading.{begin, more, stops, ends}
 use Rattle.reader.proofs.Stores.{none_stored, more_stored, stored_length}
 use Rattle.reg_reader.proofs.members.Goals as goal
 

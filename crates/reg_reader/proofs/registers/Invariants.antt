@@ -1,15 +1,9 @@
 -- The invariant: the maps read so far are stored, and the rest from here is the rest of the whole.
-use borrow.Author.Rules.{rules}
-use Prim.Native.Nat.{ℕ, ◌+◌, ◌-◌}
-use native.Mathlib.Omega.{arith}
-use mathlib.Core.Path.{◌≡◌}
-use mathlib.Core.List.{List, [], ◌∷◌, ◌++◌}
-use lib.ListN.{length}
+use Prim.Native.Nat.{ℕ, ◌-◌}
+use mathlib.Core.List.{List}
 use Rattle.job.specs.Load.{register}
 use Rattle.reader.specs.Read.{Stored}
-use Rattle.reader.proofs.Answers.{no_num, took_num}
-use Rattle.reader.proofs.Reading.{Reading, begin, more, stops, ends}
-use Rattle.reader.proofs.Stores.{none_stored, more_stored, stored_length}
+use Rattle.reader.proofs.Reading.{Reading}
 use Rattle.reg_reader.proofs.registers.Given as goal
 
 abbrev pub invariant-loop-i : goal.invariant-loop-i

@@ -1,9 +1,5 @@
-use borrow.Author.Rules.{rules}
-use Prim.Native.Nat.{◌-◌, ◌≤◌}
 use native.Mathlib.Omega.{arith}
-use mathlib.Core.Path.{◌≡◌, refl, ◌∙◌}
-use lib.ListN.{length, take}
-use Rattle.texts.specs.Texts.{Stored}
+use mathlib.Core.Path.{refl, ◌∙◌}
 use Rattle.texts.proofs.StoreLaws as laws
 use Rattle.texts.proofs.text.Goals as goal
 

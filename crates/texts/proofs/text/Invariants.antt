@@ -1,10 +1,7 @@
-use borrow.Author.Rules.{rules}
 use Prim.Native.Nat.{◌-◌, ◌≤◌}
-use native.Mathlib.Omega.{arith}
-use mathlib.Core.Path.{◌≡◌, refl, ◌∙◌}
+use mathlib.Core.Path.{◌≡◌}
 use lib.ListN.{length, take}
 use Rattle.texts.specs.Texts.{Stored}
-use Rattle.texts.proofs.StoreLaws as laws
 use Rattle.texts.proofs.text.Given as goal
 
 abbrev pub invariant-loop-i : goal.invariant-loop-i

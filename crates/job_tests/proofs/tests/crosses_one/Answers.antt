@@ -1,10 +1,6 @@
-use borrow.Author.Rules.{rules}
 use Prim.Native.Nat.{◌-◌}
 use mathlib.Core.Path.{◌≡◌, sym, ◌∙◌}
 use native.Mathlib.Omega.{arith}
-use lib.ListN.{get_or}
-use Rattle.reg_matrix.specs.Lists.{any, count}
-use Rattle.job_tests.specs.Tests.{crosses}
 use Rattle.reg_matrix.proofs.Places.{any_more, any_end}
 use Rattle.job_tests.proofs.tests.crosses_one.Goals as goal
 

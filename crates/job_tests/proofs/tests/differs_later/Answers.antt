@@ -1,8 +1,4 @@
-use borrow.Author.Rules.{rules}
-use Prim.Native.Nat.{◌-◌}
-use mathlib.Core.Path.{◌≡◌, refl, sym, ◌∙◌}
-use Rattle.reg_matrix.specs.Lists.{any, count}
-use Rattle.job_tests.specs.Tests.{classes_differ}
+use mathlib.Core.Path.{refl, sym, ◌∙◌}
 use Rattle.reg_matrix.proofs.Places.{any_more, any_end}
 use Rattle.job_tests.proofs.tests.differs_later.Goals as goal
 

@@ -1,10 +1,8 @@
 -- The invariant: the places from here on are the rest of the whole.
-use borrow.Author.Rules.{rules}
 use Prim.Native.Nat.{◌-◌}
-use mathlib.Core.Path.{◌≡◌, refl, sym, ◌∙◌}
+use mathlib.Core.Path.{◌≡◌}
 use Rattle.reg_matrix.specs.Lists.{any, count}
 use Rattle.job_tests.specs.Tests.{classes_differ}
-use Rattle.reg_matrix.proofs.Places.{any_more, any_end}
 use Rattle.job_tests.proofs.tests.differs_later.Given as goal
 
 abbrev pub invariant-loop-k : goal.invariant-loop-k

@@ -1,10 +1,5 @@
-use borrow.Author.Rules.{rules}
-use Prim.Native.Nat.{◌-◌}
-use mathlib.Core.Path.{◌≡◌, refl, sym, ◌∙◌}
-use lib.Dec.{eqb}
-use lib.ListN.{get_or}
+use mathlib.Core.Path.{refl, sym, ◌∙◌}
 use borrow.Author.Tests.{eq-eqb, ne_eqb}
-use Rattle.reg_matrix.specs.Lists.{any, count}
 use Rattle.reg_matrix.proofs.Places.{any_more, any_end}
 use Rattle.job_tests.proofs.tests.number_among.Goals as goal
 

@@ -1,12 +1,9 @@
 -- The invariant: the places from here on are the rest of the whole.
-use borrow.Author.Rules.{rules}
 use Prim.Native.Nat.{◌-◌}
-use mathlib.Core.Path.{◌≡◌, refl, sym, ◌∙◌}
+use mathlib.Core.Path.{◌≡◌}
 use lib.Dec.{eqb}
 use lib.ListN.{get_or}
-use borrow.Author.Tests.{eq-eqb, ne_eqb}
 use Rattle.reg_matrix.specs.Lists.{any, count}
-use Rattle.reg_matrix.proofs.Places.{any_more, any_end}
 use Rattle.job_tests.proofs.tests.number_among.Given as goal
 
 abbrev pub invariant-loop-k : goal.invariant-loop-k

@@ -1,8 +1,4 @@
-use borrow.Author.Rules.{rules}
-use Prim.Native.Nat.{◌-◌}
-use mathlib.Core.Path.{◌≡◌, refl, sym, ◌∙◌}
-use Rattle.reg_matrix.specs.Lists.{any_pair, count}
-use Rattle.job_tests.specs.Tests.{equal_at}
+use mathlib.Core.Path.{refl, sym, ◌∙◌}
 use Rattle.job_tests.proofs.Places.{pair_more, pair_end}
 use Rattle.job_tests.proofs.tests.number_repeats.Goals as goal
 

@@ -1,10 +1,8 @@
 -- The invariant: the places from here on are the rest of the whole.
-use borrow.Author.Rules.{rules}
 use Prim.Native.Nat.{◌-◌}
-use mathlib.Core.Path.{◌≡◌, refl, sym, ◌∙◌}
+use mathlib.Core.Path.{◌≡◌}
 use Rattle.reg_matrix.specs.Lists.{any_pair, count}
 use Rattle.job_tests.specs.Tests.{equal_at}
-use Rattle.job_tests.proofs.Places.{pair_more, pair_end}
 use Rattle.job_tests.proofs.tests.number_repeats.Given as goal
 
 abbrev pub invariant-loop-i : goal.invariant-loop-i

@@ -1,11 +1,8 @@
 -- The invariant: the places from here on are the rest of the whole.
-use borrow.Author.Rules.{rules}
 use Prim.Native.Nat.{◌-◌}
-use mathlib.Core.Path.{◌≡◌, sym, ◌∙◌}
-use native.Mathlib.Omega.{arith}
+use mathlib.Core.Path.{◌≡◌}
 use Rattle.reg_matrix.specs.Lists.{any, count}
 use Rattle.job_tests.specs.Tests.{member_twice}
-use Rattle.reg_matrix.proofs.Places.{any_more, any_end}
 use Rattle.job_tests.proofs.tests.register_repeats.Given as goal
 
 abbrev pub invariant-loop-c : goal.invariant-loop-c

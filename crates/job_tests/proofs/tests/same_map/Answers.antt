@@ -1,9 +1,6 @@
-use borrow.Author.Rules.{rules}
 use Prim.Native.Nat.{◌-◌}
 use mathlib.Core.Path.{◌≡◌, sym, ◌∙◌}
 use native.Mathlib.Omega.{arith}
-use Rattle.reg_matrix.specs.Lists.{any_pair, count}
-use Rattle.job_tests.specs.Tests.{equal_at}
 use Rattle.job_tests.proofs.Places.{pair_more, pair_end}
 use Rattle.job_tests.proofs.tests.same_map.Goals as goal
 

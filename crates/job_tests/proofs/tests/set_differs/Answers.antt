@@ -1,9 +1,6 @@
-use borrow.Author.Rules.{rules}
 use Prim.Native.Nat.{◌-◌}
 use mathlib.Core.Path.{◌≡◌, sym, ◌∙◌}
 use native.Mathlib.Omega.{arith}
-use Rattle.reg_matrix.specs.Lists.{any_pair, count}
-use Rattle.job_tests.specs.Tests.{classes_differ}
 use Rattle.job_tests.proofs.Places.{pair_more, pair_end}
 use Rattle.job_tests.proofs.tests.set_differs.Goals as goal
 

@@ -1,4 +1,3 @@
-use borrow.Author.Rules.{rules}
 use mathlib.Core.Path.{sym}
 use Rattle.job_tests.proofs.tests.whole_refusal.Goals as goal
 

@@ -1,4 +1,3 @@
-use borrow.Author.Rules.{rules}
 use borrow.Author.Tests.{le-leb, lt-leb}
 use Rattle.matrix.specs.Walk.{entry_step}
 use Rattle.matrix.proofs.Cursor.entry_step.Goals as goal

@@ -1,6 +1,4 @@
-use borrow.Author.Rules.{rules}
-use mathlib.Core.Path.{◌≡◌, refl, sym, ◌∙◌}
-use Rattle.matrix.specs.Walk.{lent, left, next_of}
+use mathlib.Core.Path.{refl, sym, ◌∙◌}
 use Rattle.matrix.proofs.Walks.{answered, next_goes, goes_less, next_meets, next_ends}
 use Rattle.matrix.proofs.Cursor.next.Goals as goal
 

@@ -1,7 +1,5 @@
-use borrow.Author.Rules.{rules}
-use mathlib.Core.Path.{◌≡◌, refl, sym, ◌∙◌}
+use mathlib.Core.Path.{◌≡◌}
 use Rattle.matrix.specs.Walk.{lent, left, next_of}
-use Rattle.matrix.proofs.Walks.{answered, next_goes, goes_less, next_meets, next_ends}
 use Rattle.matrix.proofs.Cursor.next.Given as goal
 
 abbrev pub invariant-loop-report : goal.invariant-loop-report

@@ -1,4 +1,3 @@
-use borrow.Author.Rules.{rules}
 use borrow.Author.Tests.{lt-ltb, le-ltb}
 use Rattle.matrix.specs.Walk.{onward}
 use Rattle.matrix.proofs.Cursor.onward.Goals as goal

@@ -1,4 +1,3 @@
-use borrow.Author.Rules.{rules}
 use Rattle.matrix.specs.Walk.{under_entry}
 use Rattle.matrix.proofs.Cursor.under_entry.Goals as goal
 

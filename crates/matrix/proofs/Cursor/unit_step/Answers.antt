@@ -1,4 +1,3 @@
-use borrow.Author.Rules.{rules}
 use borrow.Author.Tests.{eq-eqb, ne_eqb}
 use Rattle.matrix.specs.Walk.{unit_step}
 use Rattle.matrix.proofs.Cursor.unit_step.Goals as goal

@@ -1,4 +1,3 @@
-use borrow.Author.Rules.{rules}
 use borrow.Author.Tests.{le-leb, lt-leb, eq-eqb, ne_eqb}
 use Rattle.matrix.specs.Walk.{use_meeting}
 use Rattle.matrix.proofs.Cursor.use_meeting.Goals as goal

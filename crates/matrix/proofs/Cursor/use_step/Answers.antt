@@ -1,4 +1,3 @@
-use borrow.Author.Rules.{rules}
 use borrow.Author.Tests.{lt-ltb, le-ltb}
 use Rattle.matrix.specs.Walk.{use_step}
 use Rattle.matrix.proofs.Cursor.use_step.Goals as goal

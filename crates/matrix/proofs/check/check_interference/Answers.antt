@@ -1,4 +1,3 @@
-use borrow.Author.Rules.{rules}
 use Rattle.matrix.proofs.Starts.{refused, started}
 use Rattle.matrix.proofs.check.check_interference.Goals as goal
 

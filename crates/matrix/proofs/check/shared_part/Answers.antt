@@ -1,4 +1,3 @@
-use borrow.Author.Rules.{rules}
 use Rattle.matrix.proofs.check.shared_part.Goals as goal
 
 pub returns : goal.returns

@@ -1,9 +1,9 @@
-use Prim.Native.Nat.{◌+◌, ◌-◌, ◌≤◌, ◌<◌, ◌^◌}
+use Prim.Native.Nat.{◌+◌, ◌-◌}
 use borrow.Author.Rules.{rules}
 use native.Mathlib.Omega.{arith}
 use mathlib.Core.Path.{◌≡◌, sym}
-use lib.ListN.{length, drop, length-drop}
-use Rattle.job.specs.Parser.{parsed, little}
+use lib.ListN.{length-drop}
+use Rattle.job.specs.Parser.{little}
 use Rattle.reader.proofs.Answers.{little_short, pow_fits, pow_pos, turn_small, turn_reads}
 use Rattle.reader.proofs.read.little.Goals as goal
 

@@ -1,11 +1,8 @@
 -- The loop's invariant: the bytes from `at + i` on are read, and give v.
 use Prim.Native.Nat.{◌+◌, ◌-◌, ◌≤◌, ◌<◌, ◌^◌}
-use borrow.Author.Rules.{rules}
-use native.Mathlib.Omega.{arith}
-use mathlib.Core.Path.{◌≡◌, sym}
-use lib.ListN.{length, drop, length-drop}
+use mathlib.Core.Path.{◌≡◌}
+use lib.ListN.{length, drop}
 use Rattle.job.specs.Parser.{parsed, little}
-use Rattle.reader.proofs.Answers.{little_short, pow_fits, pow_pos, turn_small, turn_reads}
 use Rattle.reader.proofs.read.little.Given as goal
 
 abbrev pub invariant-loop-i : goal.invariant-loop-i

@@ -1,4 +1,3 @@
-use borrow.Author.Rules.{rules}
 use Rattle.script_bytes.proofs.ReadLaws.{number_read}
 use Rattle.script_bytes.proofs.input.read_number.Goals as goal
 

@@ -1,7 +1,4 @@
-use borrow.Author.Rules.{rules}
-use Prim.Native.Nat.{◌+◌, ◌≤◌}
 use native.Mathlib.Omega.{arith}
-use mathlib.Core.Path.{◌≡◌}
 use Rattle.script_bytes.proofs.ReadLaws.{all_took, less_took}
 use Rattle.script_bytes.proofs.input.skip.Goals as goal
 

@@ -1,4 +1,3 @@
-use borrow.Author.Rules.{rules}
 use mathlib.Core.Path.{ap}
 use lib.ListN.{length}
 use Rattle.script_bytes.proofs.output.print.Goals as goal

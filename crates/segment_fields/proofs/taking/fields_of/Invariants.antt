@@ -1,13 +1,8 @@
-use borrow.Author.Rules.{rules}
-use Prim.Native.Nat.{ℕ, ◌≤◌, ◌<◌, ◌-◌}
-use native.Mathlib.Omega.{arith}
-use mathlib.Core.Path.{◌≡◌, refl, ap, ◌∙◌}
-use mathlib.Core.List.{List}
-use lib.Dec.{ltb}
-use lib.ListN.{length, take, get_or, set}
+use Prim.Native.Nat.{◌≤◌, ◌-◌}
+use mathlib.Core.Path.{◌≡◌}
+use lib.ListN.{take}
 use Rattle.reg_matrix.specs.Lists.{padded}
 use Rattle.segment_fields.specs.Apart.{max_segments, froms_of, tos_of, values_of}
-use Rattle.segment_fields.proofs.ApartLaws.{no_segment, stored, all_stored}
 use Rattle.segment_fields.proofs.taking.fields_of.Given as goal
 
 abbrev pub invariant-loop-i : goal.invariant-loop-i

@@ -1,4 +1,4 @@
-use Rattle.std.proofs.Common.{◌≡◌, ◌<◌, length, arith}
+use Rattle.std.proofs.Common.{◌≡◌, arith}
 use Rattle.segment_fields.proofs.ApartLaws.{gathered}
 use Rattle.segment_fields.proofs.taking.take_apart.Goals as goal
 

@@ -1,4 +1,3 @@
-use borrow.Author.Rules.{rules}
 use borrow.Author.Tests.{lt-ltb, le-ltb, le-leb, lt-leb}
 use mathlib.Core.Path.{sym, ◌∙◌}
 use Rattle.reg_matrix.specs.Refusals.{range_refusal, refusal}

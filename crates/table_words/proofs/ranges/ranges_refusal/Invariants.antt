@@ -1,11 +1,9 @@
-use borrow.Author.Rules.{rules}
 use Prim.Native.Nat.{◌-◌}
-use mathlib.Core.Path.{◌≡◌, sym, ap, ◌∙◌}
+use mathlib.Core.Path.{◌≡◌}
 use mathlib.Core.List.{[]}
 use lib.ListN.{length}
 use Rattle.reg_matrix.specs.Refusals.{ranges_refusal}
-use Rattle.table_words.specs.Segments.{refusal_number, segments_from, segments_in}
-use Rattle.table_words.proofs.RangeLaws.{range_told, ranges_start, ranges_stop, ranges_go, ranges_end}
+use Rattle.table_words.specs.Segments.{segments_from, segments_in}
 use Rattle.table_words.proofs.ranges.ranges_refusal.Given as goal
 
 abbrev pub invariant-loop-i : goal.invariant-loop-i

@@ -1,4 +1,3 @@
-use borrow.Author.Rules.{rules}
 use borrow.Author.Tests.{le-leb, lt-leb, eq-eqb, ne_eqb}
 use Rattle.table_words.specs.Segments.{start_refusal}
 use Rattle.table_words.proofs.ranges.start_refusal.Goals as goal

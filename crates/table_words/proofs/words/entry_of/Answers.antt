@@ -1,5 +1,4 @@
 use Rattle.reg_matrix.specs.Layout.{entry_of}
-use borrow.Author.Rules.{rules}
 use Rattle.table_words.proofs.words.entry_of.Goals as goal
 
 pub returns : goal.returns
