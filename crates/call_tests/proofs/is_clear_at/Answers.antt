@@ -1,4 +1,3 @@
-use borrow.Author.Rules.{rules}
 use mathlib.Core.Path.{◌∙◌}
 use Rattle.call_tests.specs.Testing.{clear_at}
 use Rattle.call_tests.proofs.is_clear_at.Goals as goal

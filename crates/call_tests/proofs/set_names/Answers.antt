@@ -1,9 +1,6 @@
-use borrow.Author.Rules.{rules}
 use Prim.Native.Nat.{◌-◌}
 use mathlib.Core.Path.{◌≡◌, sym, ◌∙◌}
 use native.Mathlib.Omega.{arith}
-use Rattle.reg_matrix.specs.Lists.{any, count}
-use Rattle.call_tests.specs.Testing.{hinted_at}
 use Rattle.reg_matrix.proofs.Places.{any_more, any_end}
 use Rattle.call_tests.proofs.set_names.Goals as goal
 

@@ -1,11 +1,8 @@
 -- The invariant: the numbers from here on are the rest of the whole.
-use borrow.Author.Rules.{rules}
 use Prim.Native.Nat.{◌-◌}
-use mathlib.Core.Path.{◌≡◌, sym, ◌∙◌}
-use native.Mathlib.Omega.{arith}
+use mathlib.Core.Path.{◌≡◌}
 use Rattle.reg_matrix.specs.Lists.{any, count}
 use Rattle.call_tests.specs.Testing.{hinted_at}
-use Rattle.reg_matrix.proofs.Places.{any_more, any_end}
 use Rattle.call_tests.proofs.set_names.Given as goal
 
 abbrev pub invariant-loop-k : goal.invariant-loop-k

@@ -1,4 +1,3 @@
-use borrow.Author.Rules.{rules}
 use Rattle.reg_matrix.specs.Refusals.{short_buffer}
 use Rattle.call_tests.proofs.short_buffers.Goals as goal
 

@@ -1,4 +1,3 @@
-use borrow.Author.Rules.{rules}
 use mathlib.Core.Path.{◌∙◌}
 use Rattle.sheets.proofs.BeginLaws.{short_begin, refused_begin, loaded_begin}
 use Rattle.job_sheet.proofs.begin.Goals as goal

@@ -1,4 +1,3 @@
-use borrow.Author.Rules.{rules}
 use Rattle.results.proofs.ReadLaws.{listing_read}
 use Rattle.results.proofs.listing_of.Goals as goal
 

@@ -1,4 +1,3 @@
-use borrow.Author.Rules.{rules}
 use mathlib.Core.Path.{sym, ◌∙◌}
 use Rattle.results.proofs.ReadLaws.{line_words_short, line_answer_short, line_next_short, line_called}
 use Rattle.results.proofs.sheet_line.Goals as goal

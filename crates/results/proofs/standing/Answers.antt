@@ -1,4 +1,3 @@
-use borrow.Author.Rules.{rules}
 use mathlib.Core.Path.{sym, ◌∙◌}
 use Rattle.results.proofs.ReadLaws.{standing_short, standing_unknown, standing_told}
 use Rattle.results.proofs.standing.Goals as goal

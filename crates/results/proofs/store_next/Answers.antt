@@ -1,4 +1,3 @@
-use borrow.Author.Rules.{rules}
 use Rattle.results.proofs.ReadLaws.{line_stored, end_stored, none_stored}
 use Rattle.results.proofs.store_next.Goals as goal
 

@@ -1,10 +1,7 @@
 -- Each call takes at least one byte, so what is left of the script falls, and the loop ends by itself. Assumes nothing.
-use borrow.Author.Rules.{rules}
 use Prim.Native.Nat.{◌≤◌}
-use native.Mathlib.Omega.{arith}
-use mathlib.Core.Path.{◌≡◌, refl}
+use mathlib.Core.Path.{◌≡◌}
 use lib.ListN.{length}
-use Rattle.script_calls.proofs.CallLaws.{no_call, a_call, call_after}
 use Rattle.script_calls.proofs.next_call.Given as goal
 
 abbrev pub invariant-loop-call : goal.invariant-loop-call

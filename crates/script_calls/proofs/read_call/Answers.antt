@@ -1,7 +1,5 @@
-use borrow.Author.Rules.{rules}
 use native.Mathlib.Omega.{arith}
 use mathlib.Core.Path.{refl}
-use borrow.Author.Tests.{not-false}
 use Rattle.script_calls.proofs.CallLaws.{no_call}
 use Rattle.script_calls.proofs.read_call.Goals as goal
 

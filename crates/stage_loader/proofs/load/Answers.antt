@@ -1,4 +1,3 @@
-use borrow.Author.Rules.{rules}
 use mathlib.Core.Logic.{inl, inr}
 use Rattle.stage_loader.proofs.StageLoads.{short_load, refused_load, accepted_load}
 use Rattle.stage_loader.proofs.load.Goals as goal

@@ -1,4 +1,3 @@
-use borrow.Author.Rules.{rules}
 use Rattle.call_lists.proofs.lists.call_at.Goals as goal
 
 pub returns : goal.returns

@@ -1,10 +1,8 @@
 use borrow.Author.Rules.{rules}
 use native.Mathlib.Omega.{arith}
-use Prim.Native.Nat.{◌-◌, ◌<◌}
-use mathlib.Core.Path.{◌≡◌, refl, sym, ◌∙◌}
+use Prim.Native.Nat.{◌<◌}
+use mathlib.Core.Path.{refl, sym, ◌∙◌}
 use lib.ListN.{length}
-use Rattle.job.specs.Layout.{slices}
-use Rattle.run_loop.specs.Running.{lent_state}
 use Rattle.call_lists.proofs.ListLaws as laws
 use Rattle.call_lists.proofs.lists.carry_out_calls.Goals as goal
 

@@ -1,8 +1,6 @@
 -- After each call the rest of the list from here is the rest of the whole.
-use borrow.Author.Rules.{rules}
-use native.Mathlib.Omega.{arith}
-use Prim.Native.Nat.{◌-◌, ◌<◌}
-use mathlib.Core.Path.{◌≡◌, refl, sym, ◌∙◌}
+use Prim.Native.Nat.{◌-◌}
+use mathlib.Core.Path.{◌≡◌}
 use lib.ListN.{length}
 use Rattle.job.specs.Layout.{slices}
 use Rattle.run_loop.specs.Running.{lent_state}

@@ -1,4 +1,3 @@
-use borrow.Author.Rules.{rules}
 use Rattle.call_lists.proofs.ListLaws as laws
 use Rattle.call_lists.proofs.lists.carry_out_list.Goals as goal
 

@@ -1,4 +1,3 @@
-use borrow.Author.Rules.{rules}
 use mathlib.Core.Path.{sym, ◌∙◌}
 use Rattle.pezhkadu.proofs.DirectLaws.{assign_short, assign_refused, assign_done}
 use Rattle.pezhkadu.proofs.direct.pezhkadu_assign.Goals as goal

@@ -1,4 +1,3 @@
-use borrow.Author.Rules.{rules}
 use mathlib.Core.Path.{sym, ◌∙◌}
 use Rattle.pezhkadu.proofs.DirectLaws.{evict_words_short, evict_answer_short, evict_refused, evict_done}
 use Rattle.pezhkadu.proofs.direct.pezhkadu_evict.Goals as goal

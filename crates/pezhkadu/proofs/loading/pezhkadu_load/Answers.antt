@@ -1,4 +1,3 @@
-use borrow.Author.Rules.{rules}
 use mathlib.Core.Path.{sym, ◌∙◌}
 use Rattle.pezhkadu.proofs.LoadLaws.{load_short, load_stored}
 use Rattle.pezhkadu.proofs.loading.pezhkadu_load.Goals as goal

@@ -1,4 +1,3 @@
-use borrow.Author.Rules.{rules}
 use Rattle.pezhkadu.proofs.LoadLaws.{refused_stored, loaded_stored}
 use Rattle.pezhkadu.proofs.loading.store_answer.Goals as goal
 

@@ -1,4 +1,3 @@
-use borrow.Author.Rules.{rules}
 use Rattle.script_calls.proofs.Call.make.Goals as goal
 
 pub shape_of-ends : goal.shape_of-ends

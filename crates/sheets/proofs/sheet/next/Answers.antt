@@ -1,4 +1,3 @@
-use borrow.Author.Rules.{rules}
 use Rattle.sheets.proofs.NextLaws.{next_line}
 use Rattle.sheets.proofs.sheet.next.Goals as goal
 

@@ -1,4 +1,3 @@
-use borrow.Author.Rules.{rules}
 use Rattle.call_lists.proofs.lists.ListedCall.make.Goals as goal
 
 pub shape_of-ends-then-self-eq1 : goal.shape_of-ends-then-self-eq1

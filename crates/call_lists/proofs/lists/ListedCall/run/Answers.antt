@@ -1,4 +1,3 @@
-use borrow.Author.Rules.{rules}
 use Rattle.job.specs.Layout.{slices}
 use Rattle.run_loop.specs.Running.{lent_state}
 use Rattle.call_lists.proofs.CallLaws.{ran_so}

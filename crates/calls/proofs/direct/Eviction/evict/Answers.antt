@@ -1,4 +1,3 @@
-use borrow.Author.Rules.{rules}
 use mathlib.Core.Path.{refl}
 use Rattle.job.specs.Layout.{slices}
 use Rattle.run_loop.specs.Running.{lent_state}
