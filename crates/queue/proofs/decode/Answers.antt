@@ -1,4 +1,3 @@
-use borrow.Author.Rules.{rules}
 use borrow.Author.Tests.{lt-ltb, le-ltb, eq-eqb, ne_eqb}
 use Rattle.queue.specs.QueueWalk.{decoded}
 use Rattle.queue.proofs.decode.Goals as goal

@@ -1,4 +1,3 @@
-use borrow.Author.Rules.{rules}
 use native.Mathlib.Omega.{arith}
 use Rattle.queue.specs.QueueWalk.{key_of}
 use Rattle.queue.proofs.encode.Goals as goal

@@ -1,9 +1,6 @@
-use borrow.Author.Rules.{rules}
-use Prim.Native.Nat.{◌≤◌, ◌-◌}
 use native.Mathlib.Omega.{arith}
-use mathlib.Core.Path.{◌≡◌, refl, sym, ◌∙◌}
-use lib.ListN.{length, length-set}
-use Rattle.queue.specs.QueueWalk.{leaves_from, first_word}
+use mathlib.Core.Path.{refl, sym, ◌∙◌}
+use lib.ListN.{length-set}
 use Rattle.queue.proofs.Turns as laws
 use Rattle.queue.proofs.fill_leaves.Goals as goal
 

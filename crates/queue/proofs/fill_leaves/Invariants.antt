@@ -1,10 +1,7 @@
-use borrow.Author.Rules.{rules}
 use Prim.Native.Nat.{◌≤◌, ◌-◌}
-use native.Mathlib.Omega.{arith}
-use mathlib.Core.Path.{◌≡◌, refl, sym, ◌∙◌}
-use lib.ListN.{length, length-set}
+use mathlib.Core.Path.{◌≡◌}
+use lib.ListN.{length}
 use Rattle.queue.specs.QueueWalk.{leaves_from, first_word}
-use Rattle.queue.proofs.Turns as laws
 use Rattle.queue.proofs.fill_leaves.Given as goal
 
 abbrev pub invariant-loop-number : goal.invariant-loop-number

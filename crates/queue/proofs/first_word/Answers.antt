@@ -1,4 +1,3 @@
-use borrow.Author.Rules.{rules}
 use borrow.Author.Tests.{lt-ltb, le-ltb}
 use Rattle.queue.specs.QueueWalk.{first_word}
 use Rattle.queue.proofs.first_word.Goals as goal

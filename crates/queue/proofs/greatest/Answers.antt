@@ -1,4 +1,3 @@
-use borrow.Author.Rules.{rules}
 use Rattle.queue.proofs.greatest.Goals as goal
 
 pub returns : goal.returns

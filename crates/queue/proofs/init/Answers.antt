@@ -1,4 +1,3 @@
-use borrow.Author.Rules.{rules}
 use Rattle.queue.specs.QueueWalk.{filled}
 use Rattle.queue.proofs.init.Goals as goal
 

@@ -1,4 +1,3 @@
-use borrow.Author.Rules.{rules}
 use Rattle.queue.specs.QueueWalk.{play_at}
 use Rattle.queue.proofs.play.Goals as goal
 

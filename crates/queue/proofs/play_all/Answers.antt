@@ -1,9 +1,5 @@
-use borrow.Author.Rules.{rules}
-use Prim.Native.Nat.{◌<◌}
 use native.Mathlib.Omega.{arith}
-use mathlib.Core.Path.{◌≡◌, refl, sym, ◌∙◌}
-use lib.ListN.{length}
-use Rattle.queue.specs.QueueWalk.{play_from}
+use mathlib.Core.Path.{refl, sym, ◌∙◌}
 use Rattle.queue.proofs.Turns as laws
 use Rattle.queue.proofs.play_all.Goals as goal
 

@@ -1,10 +1,7 @@
-use borrow.Author.Rules.{rules}
 use Prim.Native.Nat.{◌<◌}
-use native.Mathlib.Omega.{arith}
-use mathlib.Core.Path.{◌≡◌, refl, sym, ◌∙◌}
+use mathlib.Core.Path.{◌≡◌}
 use lib.ListN.{length}
 use Rattle.queue.specs.QueueWalk.{play_from}
-use Rattle.queue.proofs.Turns as laws
 use Rattle.queue.proofs.play_all.Given as goal
 
 abbrev pub invariant-loop-i : goal.invariant-loop-i

@@ -1,10 +1,8 @@
-use borrow.Author.Rules.{rules}
-use Prim.Native.Nat.{◌<◌}
 use native.Mathlib.Omega.{arith}
-use mathlib.Core.Path.{◌≡◌, refl, sym, ◌∙◌}
-use lib.ListN.{length, length-set}
+use mathlib.Core.Path.{refl, sym, ◌∙◌}
+use lib.ListN.{length-set}
 use borrow.Author.Tests.{lt-ltb, le-ltb}
-use Rattle.queue.specs.QueueWalk.{climb, set_word}
+use Rattle.queue.specs.QueueWalk.{set_word}
 use Rattle.queue.proofs.Turns as laws
 use Rattle.queue.proofs.set_word.Goals as goal
 

@@ -1,11 +1,7 @@
-use borrow.Author.Rules.{rules}
 use Prim.Native.Nat.{◌<◌}
-use native.Mathlib.Omega.{arith}
-use mathlib.Core.Path.{◌≡◌, refl, sym, ◌∙◌}
-use lib.ListN.{length, length-set}
-use borrow.Author.Tests.{lt-ltb, le-ltb}
-use Rattle.queue.specs.QueueWalk.{climb, set_word}
-use Rattle.queue.proofs.Turns as laws
+use mathlib.Core.Path.{◌≡◌}
+use lib.ListN.{length}
+use Rattle.queue.specs.QueueWalk.{climb}
 use Rattle.queue.proofs.set_word.Given as goal
 
 abbrev pub invariant-loop-left : goal.invariant-loop-left
