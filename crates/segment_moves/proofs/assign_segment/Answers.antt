@@ -1,4 +1,3 @@
-use borrow.Author.Rules.{rules}
 use mathlib.Core.Path.{◌∙◌}
 use Rattle.entries.specs.Placing.{assigning_segment}
 use Rattle.segment_moves.proofs.assign_segment.Goals as goal

@@ -1,4 +1,3 @@
-use borrow.Author.Rules.{rules}
 use mathlib.Core.Path.{◌∙◌}
 use Rattle.entries.specs.Placing.{evicting_segment}
 use Rattle.segment_moves.proofs.evict_segment.Goals as goal

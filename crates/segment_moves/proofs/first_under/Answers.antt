@@ -1,4 +1,3 @@
-use borrow.Author.Rules.{rules}
 use borrow.Author.Tests.{eq-eqb, ne_eqb}
 use Rattle.entries.specs.Placing.{first_under}
 use Rattle.segment_moves.proofs.first_under.Goals as goal

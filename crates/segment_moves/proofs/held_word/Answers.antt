@@ -1,4 +1,3 @@
-use borrow.Author.Rules.{rules}
 use Rattle.segment_moves.proofs.held_word.Goals as goal
 
 pub returns : goal.returns

@@ -1,9 +1,5 @@
 use borrow.Author.Rules.{rules}
-use Prim.Native.Nat.{◌-◌}
-use mathlib.Core.Path.{◌≡◌, refl, sym, ◌∙◌}
-use lib.ListN.{length}
-use Rattle.entries.specs.Moves.{words}
-use Rattle.entries.specs.Placing.{inserting_uses}
+use mathlib.Core.Path.{refl, sym, ◌∙◌}
 use Rattle.segment_moves.proofs.UseWalks.{uses_more, uses_end}
 use Rattle.segment_moves.proofs.insert_uses.Goals as goal
 

@@ -1,10 +1,8 @@
-use borrow.Author.Rules.{rules}
 use Prim.Native.Nat.{◌-◌}
-use mathlib.Core.Path.{◌≡◌, refl, sym, ◌∙◌}
+use mathlib.Core.Path.{◌≡◌}
 use lib.ListN.{length}
 use Rattle.entries.specs.Moves.{words}
 use Rattle.entries.specs.Placing.{inserting_uses}
-use Rattle.segment_moves.proofs.UseWalks.{uses_more, uses_end}
 use Rattle.segment_moves.proofs.insert_uses.Given as goal
 
 abbrev pub invariant-loop-j : goal.invariant-loop-j

@@ -1,4 +1,3 @@
-use borrow.Author.Rules.{rules}
 use borrow.Author.Tests.{lt-ltb, le-ltb, eq-eqb, ne_eqb}
 use Rattle.entries.specs.Placing.{is_own}
 use Rattle.segment_moves.proofs.is_own.Goals as goal
