@@ -1,4 +1,3 @@
-use borrow.Author.Rules.{rules}
 use mathlib.Core.Path.{sym, ap, ◌∙◌}
 use Rattle.records.specs.Fields.{kind_of}
 use Rattle.records.proofs.assignment.kind_of.Goals as goal

@@ -1,4 +1,3 @@
-use borrow.Author.Rules.{rules}
 use native.Mathlib.Omega.{arith}
 use Rattle.job.proofs.WeightBits.{not_nan}
 use Rattle.records.proofs.changes.weight_of.Goals as goal
