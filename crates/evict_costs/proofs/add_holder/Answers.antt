@@ -1,4 +1,3 @@
-use borrow.Author.Rules.{rules}
 use Rattle.evict_costs.proofs.add_holder.Goals as goal
 
 pub returns : goal.returns

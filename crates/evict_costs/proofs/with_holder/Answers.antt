@@ -1,4 +1,3 @@
-use borrow.Author.Rules.{rules}
 use Rattle.evict_costs.proofs.with_holder.Goals as goal
 
 pub returns-then-seen : goal.returns-then-seen
