@@ -1,4 +1,3 @@
-use borrow.Author.Rules.{rules}
 use borrow.Author.Tests.{lt-ltb, le-ltb, eq-eqb, ne_eqb}
 use Rattle.unit_free.specs.Spare.{free_at}
 use Rattle.unit_free.proofs.free_at.Goals as goal
