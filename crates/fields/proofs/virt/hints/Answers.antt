@@ -1,14 +1,10 @@
-use borrow.Author.Rules.{rules}
-use Prim.Native.Nat.{◌+◌, ◌-◌}
+use Prim.Native.Nat.{◌+◌}
 use native.Mathlib.Omega.{arith}
 use mathlib.Core.Path.{◌≡◌}
-use mathlib.Core.List.{List, [], ◌∷◌, ◌++◌}
+use mathlib.Core.List.{[], ◌∷◌, ◌++◌}
 use lib.ListN.{length}
-use Rattle.job.specs.declared.Hint.{Hint}
-use Rattle.job.specs.Load.{hint}
-use Rattle.reader.proofs.Reading.{Reading, begin, more, stops, ends}
+use Rattle.reader.proofs.Reading.{begin, more, stops, ends}
 use Rattle.reader.proofs.Stores.{none_stored, more_stored, stored_length}
-use Rattle.fields.specs.Virt.{HintsAt}
 use Rattle.fields.proofs.virt.hints.Goals as goal
 
 pub loop-i-init : goal.loop-i-init

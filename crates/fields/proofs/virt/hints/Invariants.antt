@@ -1,14 +1,9 @@
 -- The invariant: the hints read so far are stored, and the rest from here is the rest of the whole.
-use borrow.Author.Rules.{rules}
-use Prim.Native.Nat.{◌+◌, ◌-◌}
-use native.Mathlib.Omega.{arith}
-use mathlib.Core.Path.{◌≡◌}
-use mathlib.Core.List.{List, [], ◌∷◌, ◌++◌}
-use lib.ListN.{length}
+use Prim.Native.Nat.{◌-◌}
+use mathlib.Core.List.{List}
 use Rattle.job.specs.declared.Hint.{Hint}
 use Rattle.job.specs.Load.{hint}
-use Rattle.reader.proofs.Reading.{Reading, begin, more, stops, ends}
-use Rattle.reader.proofs.Stores.{none_stored, more_stored, stored_length}
+use Rattle.reader.proofs.Reading.{Reading}
 use Rattle.fields.specs.Virt.{HintsAt}
 use Rattle.fields.proofs.virt.hints.Given as goal
 

@@ -1,16 +1,13 @@
-use borrow.Author.Rules.{rules}
-use Prim.Native.Nat.{◌+◌, ◌-◌}
+use Prim.Native.Nat.{◌+◌}
 use native.Mathlib.Omega.{arith}
 use mathlib.Core.Path.{◌≡◌, refl}
-use mathlib.Core.List.{List, [], ◌∷◌, ◌++◌}
+use mathlib.Core.List.{[], ◌∷◌, ◌++◌}
 use lib.ListN.{length}
 use Rattle.reg_matrix.specs.Lists.{foldl}
-use Rattle.reg_matrix.specs.declared.ValueSegment.{ValueSegment}
 use Rattle.reader.proofs.Tables.{past_of_more}
 use Rattle.job.specs.Load.{segment, past_of}
-use Rattle.reader.proofs.Reading.{Reading, begin, more, stops, ends}
+use Rattle.reader.proofs.Reading.{begin, more, stops, ends}
 use Rattle.reader.proofs.Stores.{none_stored, more_stored, stored_length}
-use Rattle.fields.specs.Virt.{SegmentsAt}
 use Rattle.fields.proofs.Slices.{more_segments, points_length}
 use Rattle.fields.proofs.virt.segments.Goals as goal
 

@@ -1,4 +1,3 @@
-use borrow.Author.Rules.{rules}
 use mathlib.Core.Path.{sym, ap, ◌∙◌}
 use Rattle.virt_reader.specs.Parts.{fields_view}
 use Rattle.job.specs.Load.{virt_reg_at}

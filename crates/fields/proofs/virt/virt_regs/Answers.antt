@@ -1,11 +1,9 @@
-use borrow.Author.Rules.{rules}
-use Prim.Native.Nat.{◌-◌}
 use native.Mathlib.Omega.{arith}
 use mathlib.Core.Path.{◌∙◌}
 use Rattle.job.specs.Load.{virt_reg_after}
 use Rattle.reader.proofs.Reading.{stops, ends}
 use Rattle.reader.proofs.Tables.{hints_in_length, segments_in_length}
-use Rattle.fields.proofs.Turns.{SoFar, virts_begun, virts_more, kept_32, kept_16, kept_8, kept_weights}
+use Rattle.fields.proofs.Turns.{virts_begun, virts_more, kept_32, kept_16, kept_8, kept_weights}
 use Rattle.fields.proofs.virt.virt_regs.Goals as goal
 
 pub loop-i-init : goal.loop-i-init

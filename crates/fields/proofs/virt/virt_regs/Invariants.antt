@@ -1,13 +1,7 @@
 -- The invariant: the virtual registers read so far are stored, h and g count their hints and segments, and the rest from here is the rest of the
 -- whole.
-use borrow.Author.Rules.{rules}
 use Prim.Native.Nat.{◌-◌}
-use native.Mathlib.Omega.{arith}
-use mathlib.Core.Path.{◌∙◌}
-use Rattle.job.specs.Load.{virt_reg_after}
-use Rattle.reader.proofs.Reading.{stops, ends}
-use Rattle.reader.proofs.Tables.{hints_in_length, segments_in_length}
-use Rattle.fields.proofs.Turns.{SoFar, virts_begun, virts_more, kept_32, kept_16, kept_8, kept_weights}
+use Rattle.fields.proofs.Turns.{SoFar}
 use Rattle.fields.proofs.virt.virt_regs.Given as goal
 
 abbrev pub invariant-loop-i : goal.invariant-loop-i
