@@ -1,4 +1,3 @@
-use borrow.Author.Rules.{rules}
 use Rattle.texts.proofs.StoreLaws as laws
 use Rattle.lines.proofs.free_unit.Goals as goal
 

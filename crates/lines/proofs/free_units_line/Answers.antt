@@ -1,12 +1,7 @@
-use borrow.Author.Rules.{rules}
-use Prim.Native.Nat.{ℕ, ◌≤◌, ◌-◌}
 use native.Mathlib.Omega.{arith}
-use mathlib.Core.Path.{◌≡◌, refl, sym, ◌∙◌}
-use mathlib.Core.List.{List}
-use lib.ListN.{length}
+use mathlib.Core.Path.{refl, sym, ◌∙◌}
 use Rattle.reg_matrix.specs.Lists.{ascii}
-use Rattle.texts.specs.Texts.{Stored}
-use Rattle.lines.specs.LineTexts.{lent, is_spare, units_text, spare_text}
+use Rattle.lines.specs.LineTexts.{lent, is_spare, spare_text}
 use Rattle.texts.proofs.StoreLaws as laws
 use Rattle.lines.proofs.SpareLaws as spares
 use Rattle.lines.proofs.free_units_line.Goals as goal

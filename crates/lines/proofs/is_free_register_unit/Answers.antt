@@ -1,4 +1,3 @@
-use borrow.Author.Rules.{rules}
 use Rattle.lines.specs.LineTexts.{is_spare}
 use Rattle.lines.proofs.is_free_register_unit.Goals as goal
 

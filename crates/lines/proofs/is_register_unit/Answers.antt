@@ -1,8 +1,5 @@
-use borrow.Author.Rules.{rules}
-use Prim.Native.Nat.{◌≤◌, ◌-◌}
 use native.Mathlib.Omega.{arith}
-use mathlib.Core.Path.{◌≡◌, sym, ◌∙◌}
-use Rattle.lines.specs.LineTexts.{is_register_unit}
+use mathlib.Core.Path.{sym, ◌∙◌}
 use Rattle.lines.proofs.SpareLaws as laws
 use Rattle.lines.proofs.is_register_unit.Goals as goal
 

@@ -1,7 +1,5 @@
-use borrow.Author.Rules.{rules}
 use Prim.Native.Nat.{◌≤◌, ◌-◌}
-use native.Mathlib.Omega.{arith}
-use mathlib.Core.Path.{◌≡◌, sym, ◌∙◌}
+use mathlib.Core.Path.{◌≡◌}
 use Rattle.lines.specs.LineTexts.{is_register_unit}
 use Rattle.lines.proofs.SpareLaws as laws
 use Rattle.lines.proofs.is_register_unit.Given as goal
