@@ -1,4 +1,3 @@
-use borrow.Author.Rules.{rules}
 use borrow.Author.Tests.{le-leb, lt-leb}
 use Rattle.reg_matrix.specs.Refusals.{refusal}
 use Rattle.entries.specs.Placing.{move_refusal}

@@ -1,11 +1,8 @@
-use borrow.Author.Rules.{rules}
 use Prim.Native.Nat.{◌-◌}
-use mathlib.Core.Path.{◌≡◌, refl, sym, ◌∙◌}
-use mathlib.Core.List.{[]}
+use mathlib.Core.Path.{◌≡◌}
 use lib.ListN.{length, drop}
 use Rattle.entries.specs.Moves.{words}
 use Rattle.entries.specs.Placing.{assigning_unit}
-use Rattle.placing.proofs.PlacingWalks.{unit_more, unit_end}
 use Rattle.placing.proofs.assign.assign_unit.Given as goal
 
 abbrev pub invariant-loop-i : goal.invariant-loop-i

@@ -1,13 +1,8 @@
-use borrow.Author.Rules.{rules}
 use Prim.Native.Nat.{◌≤◌}
-use native.Mathlib.Omega.{arith}
-use mathlib.Core.Path.{◌≡◌, refl, sym, ◌∙◌}
-use mathlib.Core.List.{[]}
+use mathlib.Core.Path.{◌≡◌}
 use lib.ListN.{length}
-use lib.Count.{trailing_le}
 use Rattle.entries.specs.Moves.{words}
 use Rattle.entries.specs.Placing.{assigning}
-use Rattle.placing.proofs.PlacingWalks.{units_more, units_end}
 use Rattle.placing.proofs.assign.assign_units.Given as goal
 
 abbrev pub invariant-loop-left : goal.invariant-loop-left

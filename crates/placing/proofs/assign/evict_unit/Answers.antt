@@ -1,8 +1,5 @@
 use borrow.Author.Rules.{rules}
-use Prim.Native.Nat.{◌-◌}
-use mathlib.Core.Path.{◌≡◌, refl, sym, ◌∙◌}
-use lib.ListN.{length, drop}
-use Rattle.entries.specs.Moves.{words}
+use mathlib.Core.Path.{refl, sym, ◌∙◌}
 use Rattle.entries.specs.Placing.{evicting_unit}
 use Rattle.reg_matrix.proofs.Places.{fold_more, fold_end}
 use Rattle.placing.proofs.assign.evict_unit.Goals as goal

@@ -1,10 +1,8 @@
-use borrow.Author.Rules.{rules}
 use Prim.Native.Nat.{◌-◌}
-use mathlib.Core.Path.{◌≡◌, refl, sym, ◌∙◌}
+use mathlib.Core.Path.{◌≡◌}
 use lib.ListN.{length, drop}
 use Rattle.entries.specs.Moves.{words}
 use Rattle.entries.specs.Placing.{evicting_unit}
-use Rattle.reg_matrix.proofs.Places.{fold_more, fold_end}
 use Rattle.placing.proofs.assign.evict_unit.Given as goal
 
 abbrev pub invariant-loop-i : goal.invariant-loop-i

@@ -1,9 +1,7 @@
 use borrow.Author.Rules.{rules}
-use Prim.Native.Nat.{◌≤◌}
 use native.Mathlib.Omega.{arith}
-use mathlib.Core.Path.{◌≡◌, refl, sym, ◌∙◌}
+use mathlib.Core.Path.{refl, sym, ◌∙◌}
 use mathlib.Core.List.{[]}
-use lib.ListN.{length}
 use lib.Count.{trailing_le}
 use Rattle.entries.specs.Moves.{words}
 use Rattle.entries.specs.Placing.{evicting}
