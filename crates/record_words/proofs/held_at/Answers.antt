@@ -1,4 +1,3 @@
-use borrow.Author.Rules.{rules}
 use Rattle.record_words.proofs.held_at.Goals as goal
 
 pub returns : goal.returns

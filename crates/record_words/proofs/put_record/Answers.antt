@@ -1,4 +1,3 @@
-use borrow.Author.Rules.{rules}
 use Rattle.record_words.proofs.WordLaws.{put_inside, put_past}
 use Rattle.record_words.proofs.put_record.Goals as goal
 

@@ -1,9 +1,7 @@
-use borrow.Author.Rules.{rules}
 use Prim.Native.Nat.{◌-◌}
-use mathlib.Core.Path.{refl, ap, ◌∙◌}
 use lib.ListN.{get_or}
-use Rattle.record_words.specs.Words.{record_in, records_in}
-use Rattle.record_words.proofs.Filling.{Filling, fill_start, fill_more, fill_end}
+use Rattle.record_words.specs.Words.{record_in}
+use Rattle.record_words.proofs.Filling.{Filling}
 use Rattle.record_words.proofs.read.Given as goal
 
 abbrev pub invariant-loop-i : goal.invariant-loop-i

@@ -1,4 +1,3 @@
-use borrow.Author.Rules.{rules}
 use mathlib.Core.Path.{sym, ◌∙◌}
 use Rattle.record_words.proofs.WordLaws.{record_in_lem, record_past}
 use Rattle.record_words.proofs.record_at.Goals as goal

@@ -1,4 +1,3 @@
-use borrow.Author.Rules.{rules}
 use mathlib.Core.Path.{◌∙◌}
 use Rattle.record_words.specs.Words.{record_in}
 use Rattle.record_words.proofs.record_of.Goals as goal

@@ -1,6 +1,4 @@
-use borrow.Author.Rules.{rules}
-use Prim.Native.Nat.{◌-◌}
-use Rattle.record_words.proofs.WordLaws.{Renewing, renew_start, renew_more, store_end, store_back}
+use Rattle.record_words.proofs.WordLaws.{renew_start, renew_more, store_end, store_back}
 use Rattle.record_words.proofs.renew.Goals as goal
 
 pub loop-i-init : goal.loop-i-init

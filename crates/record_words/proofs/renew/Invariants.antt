@@ -1,6 +1,5 @@
-use borrow.Author.Rules.{rules}
 use Prim.Native.Nat.{◌-◌}
-use Rattle.record_words.proofs.WordLaws.{Renewing, renew_start, renew_more, store_end, store_back}
+use Rattle.record_words.proofs.WordLaws.{Renewing}
 use Rattle.record_words.proofs.renew.Given as goal
 
 abbrev pub invariant-loop-i : goal.invariant-loop-i

@@ -1,6 +1,5 @@
 use borrow.Author.Rules.{rules}
-use Prim.Native.Nat.{◌-◌}
-use Rattle.record_words.proofs.WordLaws.{Storing, store_start, store_more, store_end, store_back}
+use Rattle.record_words.proofs.WordLaws.{store_start, store_more, store_end, store_back}
 use Rattle.record_words.proofs.store.Goals as goal
 
 pub loop-i-init : goal.loop-i-init

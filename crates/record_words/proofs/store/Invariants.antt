@@ -1,6 +1,5 @@
-use borrow.Author.Rules.{rules}
 use Prim.Native.Nat.{◌-◌}
-use Rattle.record_words.proofs.WordLaws.{Storing, store_start, store_more, store_end, store_back}
+use Rattle.record_words.proofs.WordLaws.{Storing}
 use Rattle.record_words.proofs.store.Given as goal
 
 abbrev pub invariant-loop-i : goal.invariant-loop-i
