@@ -1,4 +1,3 @@
-use borrow.Author.Rules.{rules}
 use Rattle.reg_matrix.specs.Lists.{ascii}
 use Rattle.answers.proofs.bad_line.Goals as goal
 

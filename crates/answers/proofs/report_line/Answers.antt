@@ -1,4 +1,3 @@
-use borrow.Author.Rules.{rules}
 use mathlib.Core.Path.{◌∙◌}
 use Rattle.reg_matrix.specs.Lists.{ascii}
 use Rattle.reg_matrix.specs.Lines.{report_line}

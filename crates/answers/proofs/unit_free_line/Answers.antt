@@ -1,4 +1,3 @@
-use borrow.Author.Rules.{rules}
 use Rattle.reg_matrix.specs.Lists.{ascii}
 use Rattle.answers.specs.Answers.{spared_text}
 use Rattle.answers.proofs.unit_free_line.Goals as goal
