@@ -1,4 +1,3 @@
-use borrow.Author.Rules.{rules}
 use mathlib.Core.Path.{◌∙◌}
 use Rattle.job.specs.Layout.{slices}
 use Rattle.whole_fields.proofs.Joined.{virts_refused, all_read}

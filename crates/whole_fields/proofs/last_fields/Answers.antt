@@ -1,4 +1,3 @@
-use borrow.Author.Rules.{rules}
 use mathlib.Core.Path.{refl}
 use Rattle.whole_fields.specs.Whole.{last_of}
 use Rattle.reader.proofs.Answers.{short_field, took_field, field_small}
