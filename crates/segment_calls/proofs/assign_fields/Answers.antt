@@ -1,4 +1,3 @@
-use borrow.Author.Rules.{rules}
 use Rattle.segment_calls.proofs.ListAnswers.{assigned_at, assign_fits, assign_long}
 use Rattle.segment_calls.proofs.assign_fields.Goals as goal
 

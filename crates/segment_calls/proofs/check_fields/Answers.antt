@@ -1,4 +1,3 @@
-use borrow.Author.Rules.{rules}
 use Rattle.segment_calls.specs.Answers.{check_answer}
 use Rattle.segment_calls.proofs.check_fields.Goals as goal
 

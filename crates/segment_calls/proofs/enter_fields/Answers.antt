@@ -1,4 +1,3 @@
-use borrow.Author.Rules.{rules}
 use Rattle.segment_calls.proofs.enter_fields.Goals as goal
 
 pub returns : goal.returns

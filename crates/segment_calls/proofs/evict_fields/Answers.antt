@@ -1,4 +1,3 @@
-use borrow.Author.Rules.{rules}
 use Rattle.segment_calls.proofs.ListAnswers.{evicted_at, evict_fits, evict_long}
 use Rattle.segment_calls.proofs.evict_fields.Goals as goal
 

@@ -1,4 +1,3 @@
-use borrow.Author.Rules.{rules}
 use Rattle.segment_calls.proofs.ListAnswers.{answered_at}
 use Rattle.segment_calls.proofs.next_in_fields.Goals as goal
 
