@@ -5,7 +5,7 @@ use mathlib.Core.Path.{◌≡◌, refl, ap, sym, ◌∙◌}
 use mathlib.Core.List.{List, [], ◌∷◌, ◌++◌}
 use mathlib.Core.Bool.{Bool, true, false, not, ◌||◌, cond}
 use lib.Dec.{ltb, eqb}
-use lib.Ieee.{Float, binary32, add, lt, eq}
+use lib.Ieee.{Float, binary32, add}
 use lib.ListN.{length, get_or, set, replicate, length-set, length-replicate, get_or-replicate}
 use lib.Seq.{get_or-set_same, get_or-set_other}
 use borrow.Author.Tests.{lt-ltb, eqb-true, eqb-false}
@@ -19,7 +19,7 @@ use Rattle.matrix.specs.declared.Step.{Step}
 use Rattle.matrix.specs.declared.Step.TheVariants.{Report, End}
 use Rattle.job.specs.Model.{Job, zero_weight}
 use Rattle.allocator.specs.State.{State, held_by, weight_of}
-use Rattle.allocator.specs.Evict.{cheaper, ruled_out, is_fixed, holder, holders, firsts, max_weight, spill_weight, weights, greatest_spill, cost_of}
+use Rattle.allocator.specs.Evict.{ruled_out, is_fixed, holder, holders, firsts, max_weight, spill_weight, weights, greatest_spill, cost_of}
 use Rattle.allocator.specs.declared.EvictCost.{EvictCost}
 use Rattle.evict_costs.specs.Costs.{with_holder}
 use Rattle.stage.specs.EvictWalk.{weight_in, holder_cost, zero_cost, tried, on_kind, try_reports, tried_of, can_win, try_below}

@@ -1,8 +1,8 @@
 -- Costs in the shape of the code: over the weights held, spill weights and a check's reports. Laws in proofs/EvictLaws.antt tie them to Evict.antt. Assumes
 -- nothing.
-use Rattle.std.specs.Prelude.{ℕ, List, [], ◌∷◌, Bool, true, false, not, ◌&&◌, ◌||◌, cond, ltb, Float, get_or, set, replicate}
+use Rattle.std.specs.Prelude.{ℕ, List, [], ◌∷◌, Bool, true, false, ◌&&◌, cond, ltb, Float, get_or, set, replicate}
 use Rattle.std.specs.Float.{binary32}
-use Rattle.std.specs.Float.Ieee.{add, lt, eq}
+use Rattle.std.specs.Float.Ieee.{add, lt}
 use Rattle.reg_matrix.specs.declared.Interference.{Interference}
 use Rattle.reg_matrix.specs.declared.InterferenceKind.{InterferenceKind}
 use Rattle.reg_matrix.specs.declared.InterferenceKind.TheVariants.{Fixed, VirtReg}

@@ -1,14 +1,5 @@
-use borrow.Author.Rules.{rules}
-use Prim.Native.Nat.{◌+◌, ◌-◌, ◌≤◌}
 use native.Mathlib.Omega.{arith}
-use mathlib.Core.Path.{◌≡◌, refl, sym, ◌∙◌}
-use mathlib.Core.List.{List}
-use mathlib.Core.Bool.{false}
-use lib.ListN.{length}
-use Rattle.matrix.specs.Walk.{lent}
-use Rattle.allocator.specs.declared.CandidateReg.{CandidateReg}
-use Rattle.order.specs.OrderWalk.{Computed, offers_from}
-use Rattle.stage.specs.AllocateWalk.{available_in}
+use mathlib.Core.Path.{refl, sym, ◌∙◌}
 use Rattle.stage.proofs.AllocateLaws.{clear_is, available_end, available_skip, available_clear, available_not, available_past}
 use Rattle.stage.proofs.allocate.find_available_reg.Goals as goal
 

@@ -1,4 +1,3 @@
-use borrow.Author.Rules.{rules}
 use Rattle.stage.proofs.allocate.is_better.Goals as goal
 
 pub returns-then-may_evict : goal.returns-then-may_evict

@@ -1,4 +1,3 @@
-use borrow.Author.Rules.{rules}
 use Rattle.stage.proofs.AllocateLaws.{clear_end, clear_report}
 use Rattle.stage.proofs.allocate.is_clear.Goals as goal
 

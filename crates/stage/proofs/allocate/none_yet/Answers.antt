@@ -1,4 +1,3 @@
-use borrow.Author.Rules.{rules}
 use lib.Ieee.{nan_bits}
 use Rattle.stage.proofs.allocate.none_yet.Goals as goal
 

@@ -1,14 +1,5 @@
-use borrow.Author.Rules.{rules}
-use Prim.Native.Nat.{◌+◌, ◌-◌, ◌≤◌}
 use native.Mathlib.Omega.{arith}
-use mathlib.Core.Path.{◌≡◌, sym, ◌∙◌}
-use mathlib.Core.List.{List}
-use lib.ListN.{length}
-use Rattle.matrix.specs.Walk.{lent}
-use Rattle.allocator.specs.declared.CandidateReg.{CandidateReg}
-use Rattle.record_words.specs.Words.{held_in}
-use Rattle.order.specs.OrderWalk.{Computed, offers_from}
-use Rattle.stage.specs.AllocateWalk.{no_best, evict_in}
+use mathlib.Core.Path.{sym, ◌∙◌}
 use Rattle.stage.proofs.AllocateLaws.{tried_is, evict_end, evict_skip, evict_past, evict_better, evict_not}
 use Rattle.stage.proofs.allocate.try_evict.Goals as goal
 

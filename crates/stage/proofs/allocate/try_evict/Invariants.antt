@@ -1,8 +1,6 @@
 -- The invariant: the search from place i on, with the best so far, finds what the whole search finds. Assumes nothing.
-use borrow.Author.Rules.{rules}
 use Prim.Native.Nat.{◌+◌, ◌-◌, ◌≤◌}
-use native.Mathlib.Omega.{arith}
-use mathlib.Core.Path.{◌≡◌, sym, ◌∙◌}
+use mathlib.Core.Path.{◌≡◌}
 use mathlib.Core.List.{List}
 use lib.ListN.{length}
 use Rattle.matrix.specs.Walk.{lent}
@@ -10,7 +8,6 @@ use Rattle.allocator.specs.declared.CandidateReg.{CandidateReg}
 use Rattle.record_words.specs.Words.{held_in}
 use Rattle.order.specs.OrderWalk.{Computed, offers_from}
 use Rattle.stage.specs.AllocateWalk.{no_best, evict_in}
-use Rattle.stage.proofs.AllocateLaws.{tried_is, evict_end, evict_skip, evict_past, evict_better, evict_not}
 use Rattle.stage.proofs.allocate.try_evict.Given as goal
 
 abbrev pub invariant-loop-i : goal.invariant-loop-i

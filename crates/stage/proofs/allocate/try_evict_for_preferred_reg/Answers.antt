@@ -1,14 +1,5 @@
-use borrow.Author.Rules.{rules}
-use Prim.Native.Nat.{◌-◌, ◌≤◌}
 use native.Mathlib.Omega.{arith}
-use mathlib.Core.Path.{◌≡◌, refl, sym, ◌∙◌}
-use mathlib.Core.List.{List}
-use lib.ListN.{length, drop}
-use Rattle.matrix.specs.Walk.{lent}
-use Rattle.allocator.specs.declared.CandidateReg.{CandidateReg}
-use Rattle.record_words.specs.Words.{held_in}
-use Rattle.order.specs.OrderWalk.{Computed}
-use Rattle.stage.specs.AllocateWalk.{prefer_in}
+use mathlib.Core.Path.{refl, sym, ◌∙◌}
 use Rattle.order.proofs.OrderLaws.{computed_length, hinted_at_lem}
 use Rattle.stage.proofs.AllocateLaws.{tried_is, prefer_end, prefer_yes, prefer_no}
 use Rattle.stage.proofs.allocate.try_evict_for_preferred_reg.Goals as goal

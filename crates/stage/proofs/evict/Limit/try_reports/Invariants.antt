@@ -1,15 +1,11 @@
 -- The invariant: the walk over the reports still to come, from the cost and the holders so far, finds what the whole walk finds. Assumes nothing.
-use borrow.Author.Rules.{rules}
-use mathlib.Core.Path.{◌≡◌, refl, sym, ◌∙◌}
+use mathlib.Core.Path.{◌≡◌}
 use mathlib.Core.Bool.{false}
-use lib.ListN.{length, length-set}
-use borrow.Author.Tests.{lt-ltb, le-ltb, not-true, not-false}
+use lib.ListN.{length}
 use Rattle.matrix.specs.Walk.{lent, remaining}
 use Rattle.record_words.specs.Words.{held_in}
-use Rattle.record_words.proofs.WordLaws.{held_read}
 use Rattle.stage.specs.EvictWalk.{try_below, tried_below}
 use Rattle.stage.specs.AllocateWalk.{reports_on}
-use Rattle.stage.proofs.EvictLaws.{going_on, next_less, below_end, below_fixed, below_more, below_stop, below_far}
 use Rattle.stage.proofs.evict.Limit.try_reports.Given as goal
 
 abbrev pub invariant-loop-report : goal.invariant-loop-report
