@@ -6,6 +6,7 @@ ghost use Rattle.std.specs.Prelude.{◌≡◌};
 ghost use Rattle.narrow.specs.Cut.{cut};
 
 // The number, or the greatest of 8 bits where it is above it.
+#[tactic(auto, unfolding(crate::specs::Cut::cut))]
 pub fn cut8(n: u64) -> u8
     ensures { result ≡ cut 0xFF n }
 {
@@ -13,6 +14,7 @@ pub fn cut8(n: u64) -> u8
 }
 
 // The same of 16 bits.
+#[tactic(auto, unfolding(crate::specs::Cut::cut))]
 pub fn cut16(n: u64) -> u16
     ensures { result ≡ cut 0xFFFF n }
 {
@@ -20,6 +22,7 @@ pub fn cut16(n: u64) -> u16
 }
 
 // The same of 32 bits.
+#[tactic(auto, unfolding(crate::specs::Cut::cut))]
 pub fn cut32(n: u64) -> u32
     ensures { result ≡ cut 0xFFFF_FFFF n }
 {
