@@ -1,4 +1,3 @@
-use borrow.Author.Rules.{rules}
 use Rattle.job_stores.proofs.buffers.clear_job.Goals as goal
 
 pub returns : goal.returns

@@ -1,10 +1,9 @@
-use borrow.Author.Rules.{rules}
 use Prim.Native.Nat.{◌+◌, ◌-◌}
 use native.Mathlib.Omega.{arith}
 use mathlib.Core.Path.{◌≡◌, refl, ap, sym, ◌∙◌}
-use lib.ListN.{length, get_or}
+use lib.ListN.{get_or}
 use Rattle.reg_matrix.specs.Lists.{foldl, count}
-use Rattle.entries.specs.Reserving.{Lain, lain, cleared, reserving}
+use Rattle.entries.specs.Reserving.{Lain, cleared, reserving}
 use Rattle.job_stores.specs.Storing.{reserving_all}
 use Rattle.job_tests.proofs.Places.{fold_more, fold_end}
 use Rattle.job_stores.proofs.reserve.reserve_all.Goals as goal

@@ -1,13 +1,9 @@
 -- The invariant: the reservations from here on are the rest of the whole.
-use borrow.Author.Rules.{rules}
-use Prim.Native.Nat.{◌+◌, ◌-◌}
-use native.Mathlib.Omega.{arith}
-use mathlib.Core.Path.{◌≡◌, refl, ap, sym, ◌∙◌}
+use Prim.Native.Nat.{◌-◌}
+use mathlib.Core.Path.{◌≡◌}
 use lib.ListN.{length, get_or}
 use Rattle.reg_matrix.specs.Lists.{foldl, count}
-use Rattle.entries.specs.Reserving.{Lain, lain, cleared, reserving}
-use Rattle.job_stores.specs.Storing.{reserving_all}
-use Rattle.job_tests.proofs.Places.{fold_more, fold_end}
+use Rattle.entries.specs.Reserving.{lain, reserving}
 use Rattle.job_stores.proofs.reserve.reserve_all.Given as goal
 
 abbrev pub invariant-loop-i : goal.invariant-loop-i

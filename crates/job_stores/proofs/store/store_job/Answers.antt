@@ -1,4 +1,3 @@
-use borrow.Author.Rules.{rules}
 use Rattle.job_stores.proofs.ReadAgain.{stores}
 use Rattle.job_stores.proofs.store.store_job.Goals as goal
 
