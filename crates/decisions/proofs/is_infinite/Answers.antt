@@ -1,4 +1,3 @@
-use borrow.Author.Rules.{rules}
 use lib.Ieee.{nan_bits}
 use Rattle.decisions.proofs.is_infinite.Goals as goal
 

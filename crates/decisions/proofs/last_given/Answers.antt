@@ -1,4 +1,3 @@
-use borrow.Author.Rules.{rules}
 use Rattle.decisions.proofs.DecideLaws.{last_none, last_some}
 use Rattle.decisions.proofs.last_given.Goals as goal
 

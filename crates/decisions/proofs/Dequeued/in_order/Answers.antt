@@ -1,4 +1,3 @@
-use borrow.Author.Rules.{rules}
 use native.Mathlib.Omega.{arith}
 use mathlib.Core.Path.{◌∙◌}
 use Rattle.decisions.proofs.DecideLaws.{found_no_candidates, found_clear, found_none_clear, order_found}

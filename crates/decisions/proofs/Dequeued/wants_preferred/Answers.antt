@@ -1,4 +1,3 @@
-use borrow.Author.Rules.{rules}
 use Rattle.decisions.proofs.DecideLaws.{wants_flagged, wants_heavier}
 use Rattle.decisions.proofs.Dequeued.wants_preferred.Goals as goal
 

@@ -1,6 +1,4 @@
-use borrow.Author.Rules.{rules}
 use mathlib.Core.Path.{◌∙◌}
-use borrow.Author.Tests.{not-true, not-false}
 use Rattle.decisions.proofs.DecideLaws.{clear_taken, clear_searched, evicts_found, evicts_none}
 use Rattle.decisions.proofs.Dequeued.with_clear.Goals as goal
 

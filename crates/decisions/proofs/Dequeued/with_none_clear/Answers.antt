@@ -1,4 +1,3 @@
-use borrow.Author.Rules.{rules}
 use mathlib.Core.Path.{◌∙◌}
 use Rattle.decisions.proofs.DecideLaws.{none_at_split, none_at_evict, evicted_found, evicted_fails, evicted_splits}
 use Rattle.decisions.proofs.Dequeued.with_none_clear.Goals as goal
