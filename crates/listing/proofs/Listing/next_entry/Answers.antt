@@ -1,4 +1,3 @@
-use borrow.Author.Rules.{rules}
 use borrow.Author.Tests.{lt-ltb, le-ltb, eq-eqb, ne_eqb}
 use Rattle.listing.specs.Walk.{entry_found}
 use Rattle.listing.proofs.LineLaws.{entry_room}

@@ -1,4 +1,3 @@
-use borrow.Author.Rules.{rules}
 use Rattle.lines.specs.LineTexts.{lent}
 use Rattle.listing.proofs.LineLaws.{spare_room}
 use Rattle.listing.proofs.WalkLaws as laws

@@ -1,4 +1,3 @@
-use borrow.Author.Rules.{rules}
 use mathlib.Core.Path.{refl}
 use Rattle.lines.specs.LineTexts.{lent}
 use Rattle.listing.proofs.LineLaws.{end_room}

@@ -1,4 +1,3 @@
-use borrow.Author.Rules.{rules}
 use borrow.Author.Tests.{lt-ltb, le-ltb}
 use Rattle.listing.specs.Walk.{virt_reg_found}
 use Rattle.listing.proofs.LineLaws.{standing_room}
