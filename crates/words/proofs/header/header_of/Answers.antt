@@ -1,4 +1,3 @@
-use borrow.Author.Rules.{rules}
 use Rattle.words.proofs.HeaderLaws.{header_read}
 use Rattle.words.proofs.header.header_of.Goals as goal
 

@@ -1,4 +1,3 @@
-use borrow.Author.Rules.{rules}
 use Rattle.words.proofs.HeaderLaws.{no_probe, a_probe}
 use Rattle.words.proofs.header.probe_of.Goals as goal
 

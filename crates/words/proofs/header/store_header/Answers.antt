@@ -1,4 +1,3 @@
-use borrow.Author.Rules.{rules}
 use Rattle.words.proofs.HeaderLaws.{header_stored}
 use Rattle.words.proofs.header.store_header.Goals as goal
 

@@ -1,4 +1,3 @@
-use borrow.Author.Rules.{rules}
 use Rattle.words.proofs.HeaderLaws.{no_probe_stored, probe_stored}
 use Rattle.words.proofs.header.store_probe.Goals as goal
 

@@ -1,4 +1,3 @@
-use borrow.Author.Rules.{rules}
 use Rattle.words.proofs.NumberLaws.{entry_inside, entry_past}
 use Rattle.words.proofs.numbers.entry_number.Goals as goal
 

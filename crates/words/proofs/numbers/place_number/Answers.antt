@@ -1,4 +1,3 @@
-use borrow.Author.Rules.{rules}
 use mathlib.Core.Path.{refl}
 use Rattle.words.proofs.NumberLaws.{of_place}
 use Rattle.words.proofs.numbers.place_number.Goals as goal

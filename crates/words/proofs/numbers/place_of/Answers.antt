@@ -1,4 +1,3 @@
-use borrow.Author.Rules.{rules}
 use Rattle.words.proofs.NumberLaws.{at_head, at_virt_reg, at_end, at_entry}
 use Rattle.words.proofs.numbers.place_of.Goals as goal
 

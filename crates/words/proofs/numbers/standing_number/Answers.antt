@@ -1,4 +1,3 @@
-use borrow.Author.Rules.{rules}
 use Rattle.words.proofs.NumberLaws.{in_register}
 use Rattle.words.proofs.numbers.standing_number.Goals as goal
 
