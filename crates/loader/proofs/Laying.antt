@@ -1,7 +1,7 @@
 -- What loading leaves in what was lent: the layout of the job, and the tails. Assumes nothing.
 use Prim.Native.Nat.{ℕ, suc, ◌+◌, ◌-◌, ◌≤◌}
 use native.Mathlib.Omega.{arith}
-use mathlib.Core.Path.{◌≡◌, refl, ap, sym, subst, ◌∙◌}
+use mathlib.Core.Path.{◌≡◌, refl, ap, sym, ◌∙◌}
 use mathlib.Core.List.{List, [], ◌∷◌, ◌++◌, map, append_assoc}
 use mathlib.Core.Bool.{Bool, true, false, ◌||◌}
 use lib.Dec.{ltb}
@@ -12,12 +12,9 @@ use borrow.Author.Tests.{ltb-false}
 use Rattle.reg_matrix.specs.Lists.{padded}
 use Rattle.reg_matrix.specs.Refusals.{short_buffer}
 use Rattle.reg_matrix.specs.Layout.{max_entries, max_fixed, use_words}
-use Rattle.reg_matrix.specs.declared.Entry.{Entry}
 use Rattle.reg_matrix.specs.declared.ValueSegment.{ValueSegment}
 use Rattle.job.specs.declared.Hint.{Hint}
 use Rattle.job.specs.Model.{Job, VirtReg, zero_weight}
-use Rattle.job.specs.Parser.{Parsed, parsed}
-use Rattle.job.specs.Load.{job_fields}
 use Rattle.job.specs.Layout.{starts_from, job_buffers, JobSlices, job_slices, load_limits}
 use Rattle.job.proofs.Lists.{starts_length}
 use Rattle.job.proofs.Premises.{Premises}
@@ -27,7 +24,7 @@ use Rattle.placing.proofs.Loaded.{In}
 use Rattle.reader.specs.Read.{all_members, hints_of_all, segments_of_all}
 use Rattle.fields.specs.Virt.{in32, in16, in8, in_weights, hint_ends, segment_ends}
 use Rattle.whole_fields.specs.Whole.{JobAt}
-use Rattle.job_stores.specs.Storing.{cleared, Stores}
+use Rattle.job_stores.specs.Storing.{cleared}
 use Rattle.loader.specs.Loading.{Lent, lent, sizes_of, later}
 use Rattle.loader.proofs.Regions.{region, laid_out}
 

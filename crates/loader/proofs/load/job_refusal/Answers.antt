@@ -1,4 +1,3 @@
-use borrow.Author.Rules.{rules}
 use Rattle.loader.specs.Loading.{job_refusal}
 use Rattle.loader.proofs.load.job_refusal.Goals as goal
 

@@ -1,4 +1,3 @@
-use borrow.Author.Rules.{rules}
 use mathlib.Core.Path.{sym, ◌∙◌}
 use Rattle.loader.proofs.Loads.{short_done, long_done}
 use Rattle.loader.proofs.load.load.Goals as goal
