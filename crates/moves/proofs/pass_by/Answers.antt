@@ -1,4 +1,3 @@
-use borrow.Author.Rules.{rules}
 use mathlib.Core.Path.{refl}
 use Rattle.moves.proofs.MoveLaws.{passed_leaves, passed_splits, passed_fails, not_takes, not_evicts}
 use Rattle.moves.proofs.pass_by.Goals as goal
