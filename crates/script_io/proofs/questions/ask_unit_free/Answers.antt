@@ -1,4 +1,3 @@
-use borrow.Author.Rules.{rules}
 use Rattle.script_io.proofs.questions.ask_unit_free.Goals as goal
 
 pub returns : goal.returns

@@ -1,6 +1,4 @@
-use borrow.Author.Rules.{rules}
 use native.Mathlib.Omega.{arith}
-use borrow.Author.Tests.{not-true, not-false}
 use Rattle.script_bytes.proofs.ReadLaws.{all_took, less_took}
 use Rattle.script_io.proofs.questions.read_segment.Goals as goal
 

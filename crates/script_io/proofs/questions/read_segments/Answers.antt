@@ -1,7 +1,5 @@
-use borrow.Author.Rules.{rules}
-use Prim.Native.Nat.{◌-◌, ◌+◌, ◌*◌, ◌≤◌}
 use native.Mathlib.Omega.{arith}
-use mathlib.Core.Path.{◌≡◌, ap}
+use mathlib.Core.Path.{ap}
 use Rattle.script_io.specs.Segments.{is_whole}
 use Rattle.script_bytes.proofs.ReadLaws.{all_took, less_took}
 use Rattle.script_io.proofs.questions.read_segments.Goals as goal

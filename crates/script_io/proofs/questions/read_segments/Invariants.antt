@@ -1,10 +1,6 @@
 -- What was left is what is left now and ten bytes for each segment read so far. Assumes nothing.
-use borrow.Author.Rules.{rules}
 use Prim.Native.Nat.{◌-◌, ◌+◌, ◌*◌, ◌≤◌}
-use native.Mathlib.Omega.{arith}
-use mathlib.Core.Path.{◌≡◌, ap}
-use Rattle.script_io.specs.Segments.{is_whole}
-use Rattle.script_bytes.proofs.ReadLaws.{all_took, less_took}
+use mathlib.Core.Path.{◌≡◌}
 use Rattle.script_io.proofs.questions.read_segments.Given as goal
 
 abbrev pub invariant-loop-i : goal.invariant-loop-i
