@@ -1,8 +1,4 @@
-use borrow.Author.Rules.{rules}
-use mathlib.Core.Path.{ap, ◌∙◌}
-use mathlib.Core.Logic.{⊎_elim}
 use mathlib.Core.List.{[]}
-use lib.ListN.{length}
 use Rattle.job.specs.Layout.{slices, lists_in}
 use Rattle.context.proofs.Carried.{cleared_evicts, cleared_stays, carried_settled, carried_passed}
 use Rattle.context.proofs.carry.carry_out.Goals as goal

@@ -1,10 +1,5 @@
-use borrow.Author.Rules.{rules}
-use Prim.Native.Nat.{◌-◌}
-use mathlib.Core.Path.{◌≡◌, refl, sym, ◌∙◌}
-use mathlib.Core.List.{[]}
-use lib.ListN.{length}
-use Rattle.job.specs.Layout.{slices, lists_in}
-use Rattle.context.proofs.CarryLaws.{EvictedTo, evict_start, evict_end, evict_pass, evict_idle, evict_one}
+use mathlib.Core.Path.{refl, sym, ◌∙◌}
+use Rattle.context.proofs.CarryLaws.{evict_start, evict_end, evict_pass, evict_idle, evict_one}
 use Rattle.context.proofs.carry.evict_all.Goals as goal
 
 pub loop-i-init : goal.loop-i-init

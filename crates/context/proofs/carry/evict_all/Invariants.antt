@@ -1,11 +1,10 @@
 -- The numbers below i are done, and the rest of the set from i on makes the whole.
-use borrow.Author.Rules.{rules}
 use Prim.Native.Nat.{◌-◌}
-use mathlib.Core.Path.{◌≡◌, refl, sym, ◌∙◌}
+use mathlib.Core.Path.{◌≡◌}
 use mathlib.Core.List.{[]}
 use lib.ListN.{length}
 use Rattle.job.specs.Layout.{slices, lists_in}
-use Rattle.context.proofs.CarryLaws.{EvictedTo, evict_start, evict_end, evict_pass, evict_idle, evict_one}
+use Rattle.context.proofs.CarryLaws.{EvictedTo}
 use Rattle.context.proofs.carry.evict_all.Given as goal
 
 abbrev pub invariant-loop-i : goal.invariant-loop-i

@@ -1,4 +1,3 @@
-use borrow.Author.Rules.{rules}
 use Rattle.context.proofs.carry.given.Goals as goal
 
 pub returns-then-flag : goal.returns-then-flag

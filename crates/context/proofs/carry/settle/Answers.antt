@@ -1,4 +1,3 @@
-use borrow.Author.Rules.{rules}
 use mathlib.Core.Path.{◌∙◌}
 use Rattle.context.proofs.Carried.{settled}
 use Rattle.context.proofs.carry.settle.Goals as goal
