@@ -1,10 +1,6 @@
-use borrow.Author.Rules.{rules}
 use native.Mathlib.Omega.{arith}
-use mathlib.Core.Path.{◌≡◌, refl, sym, ◌∙◌}
-use lib.ListN.{length}
-use Rattle.job.specs.Layout.{slices, lists_in}
-use Rattle.run_loop.specs.Running.{lent_state}
-use Rattle.run_loop.proofs.RunLaws.{RunTo, run_start, run_done, run_spent, run_more, run_toomany}
+use mathlib.Core.Path.{refl, sym, ◌∙◌}
+use Rattle.run_loop.proofs.RunLaws.{run_start, run_done, run_spent, run_more, run_toomany}
 use Rattle.run_loop.proofs.run_on.Goals as goal
 
 pub loop-number-init : goal.loop-number-init

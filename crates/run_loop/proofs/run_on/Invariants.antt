@@ -1,11 +1,9 @@
 -- The invariant: the rest of the run from here is the rest of the whole.
-use borrow.Author.Rules.{rules}
-use native.Mathlib.Omega.{arith}
-use mathlib.Core.Path.{◌≡◌, refl, sym, ◌∙◌}
+use mathlib.Core.Path.{◌≡◌}
 use lib.ListN.{length}
 use Rattle.job.specs.Layout.{slices, lists_in}
 use Rattle.run_loop.specs.Running.{lent_state}
-use Rattle.run_loop.proofs.RunLaws.{RunTo, run_start, run_done, run_spent, run_more, run_toomany}
+use Rattle.run_loop.proofs.RunLaws.{RunTo}
 use Rattle.run_loop.proofs.run_on.Given as goal
 
 abbrev pub invariant-loop-number : goal.invariant-loop-number

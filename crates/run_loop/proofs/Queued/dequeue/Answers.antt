@@ -1,4 +1,3 @@
-use borrow.Author.Rules.{rules}
 use Rattle.job.specs.Layout.{slices}
 use Rattle.run_loop.proofs.RunLaws.{dequeue_made}
 use Rattle.run_loop.proofs.Queued.dequeue.Goals as goal
