@@ -9,4 +9,4 @@ pub slice_bounds-all-end-2 : goal.slice_bounds-all-end-2
 slice_bounds-all-end-2 c = sym (length-take-le _ c.store.new.words c.at_most-n.ensures.0)
 
 pub returns : goal.returns
-returns c = run_stored c.args.header (slices c.args.j64.now c.args.j32.now c.args.j16.now c.args.j8.now c.args.jf.now) (lent_state c.args.ends.now c.args.rests.now c.args.queue.now c.args.last.now) c.args.words.now _ _ _ _ _ _ _ _ c.first_records.ensures c.store.ensures.words_after c.store.ensures.words_after_2 (λ l. c.at_most-n.ensures.1 (rw c.store.auto.words l)) c.run_on-end.ensures (c.run_on-end.auto.words ∙ length-take-le _ c.store.new.words c.at_most-n.ensures.0) refl c.start.ensures
+returns c = run_stored c.args.header (slices c.args.j64.now c.args.j32.now c.args.j16.now c.args.j8.now c.args.jf.now) (lent_state c.args.ends.now c.args.rests.now c.args.queue.now c.args.last.now) c.args.words.now _ _ _ _ _ _ _ _ c.first_records.ensures c.store.ensures.words_after c.store.ensures.read_back (λ l. c.at_most-n.ensures.1 (rw c.store.auto.words l)) c.run_on-end.ensures (c.run_on-end.auto.words ∙ length-take-le _ c.store.new.words c.at_most-n.ensures.0) refl c.start.ensures
