@@ -1,13 +1,8 @@
 use borrow.Author.Rules.{rules}
-use Prim.Native.Nat.{◌≤◌}
 use native.Mathlib.Omega.{arith}
-use mathlib.Core.Path.{◌≡◌, refl, ◌∙◌}
-use lib.ListN.{length}
-use Rattle.lines.specs.LineTexts.{lent}
-use Rattle.listing.specs.Walk.{lines_from}
-use Rattle.record_words.specs.Words.{records_in}
+use mathlib.Core.Path.{refl, ◌∙◌}
 use Rattle.sheets.proofs.NextLaws.{next_fewer}
-use Rattle.sheets.proofs.CountLaws.{Counted, count_start}
+use Rattle.sheets.proofs.CountLaws.{count_start}
 use Rattle.printer.proofs.WriteLaws.{lines_short, lines_end, line_room, line_written}
 use Rattle.printer.proofs.write_lines.Goals as goal
 

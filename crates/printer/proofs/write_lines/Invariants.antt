@@ -1,15 +1,11 @@
 -- What was written so far and the lines left are together the whole. The measure is how many lines are left. Assumes nothing.
-use borrow.Author.Rules.{rules}
 use Prim.Native.Nat.{◌≤◌}
-use native.Mathlib.Omega.{arith}
-use mathlib.Core.Path.{◌≡◌, refl, ◌∙◌}
+use mathlib.Core.Path.{◌≡◌}
 use lib.ListN.{length}
 use Rattle.lines.specs.LineTexts.{lent}
 use Rattle.listing.specs.Walk.{lines_from}
 use Rattle.record_words.specs.Words.{records_in}
-use Rattle.sheets.proofs.NextLaws.{next_fewer}
-use Rattle.sheets.proofs.CountLaws.{Counted, count_start}
-use Rattle.printer.proofs.WriteLaws.{lines_short, lines_end, line_room, line_written}
+use Rattle.sheets.proofs.CountLaws.{Counted}
 use Rattle.printer.proofs.write_lines.Given as goal
 
 abbrev pub invariant-loop-n : goal.invariant-loop-n

@@ -1,4 +1,3 @@
-use borrow.Author.Rules.{rules}
 use Rattle.printer.proofs.WriteLaws.{refusal_written, lines_written}
 use Rattle.printer.proofs.write_printing.Goals as goal
 

@@ -1,4 +1,3 @@
-use borrow.Author.Rules.{rules}
 use mathlib.Core.Path.{refl}
 use Rattle.reg_matrix.specs.Refusals.{short_buffer}
 use Rattle.printer.proofs.WriteLaws.{sheet_written}
