@@ -1,4 +1,3 @@
-use borrow.Author.Rules.{rules}
 use Rattle.printout.proofs.WholeLaws.{sheet_printed}
 use Rattle.printout.proofs.print.Goals as goal
 

@@ -1,13 +1,8 @@
 use borrow.Author.Rules.{rules}
-use Prim.Native.Nat.{◌≤◌}
 use native.Mathlib.Omega.{arith}
-use mathlib.Core.Path.{◌≡◌, refl, ◌∙◌}
-use lib.ListN.{length}
-use Rattle.lines.specs.LineTexts.{lent}
-use Rattle.listing.specs.Walk.{lines_from}
-use Rattle.record_words.specs.Words.{records_in}
+use mathlib.Core.Path.{refl, ◌∙◌}
 use Rattle.sheets.proofs.NextLaws.{next_fewer}
-use Rattle.printout.proofs.WholeLaws.{PrintedTo, print_start, print_end, not_refused, print_room, print_more}
+use Rattle.printout.proofs.WholeLaws.{print_start, print_end, not_refused, print_room, print_more}
 use Rattle.printout.proofs.print_from.Goals as goal
 
 pub loop-n-init : goal.loop-n-init

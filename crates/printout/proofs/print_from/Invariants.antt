@@ -1,14 +1,11 @@
 -- The lines from here on, stored from here on, are the whole. The measure is how many lines are left. Assumes nothing.
-use borrow.Author.Rules.{rules}
 use Prim.Native.Nat.{◌≤◌}
-use native.Mathlib.Omega.{arith}
-use mathlib.Core.Path.{◌≡◌, refl, ◌∙◌}
+use mathlib.Core.Path.{◌≡◌}
 use lib.ListN.{length}
 use Rattle.lines.specs.LineTexts.{lent}
 use Rattle.listing.specs.Walk.{lines_from}
 use Rattle.record_words.specs.Words.{records_in}
-use Rattle.sheets.proofs.NextLaws.{next_fewer}
-use Rattle.printout.proofs.WholeLaws.{PrintedTo, print_start, print_end, not_refused, print_room, print_more}
+use Rattle.printout.proofs.WholeLaws.{PrintedTo}
 use Rattle.printout.proofs.print_from.Given as goal
 
 abbrev pub invariant-loop-n : goal.invariant-loop-n

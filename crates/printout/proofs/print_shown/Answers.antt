@@ -1,4 +1,3 @@
-use borrow.Author.Rules.{rules}
 use native.Mathlib.Omega.{arith}
 use Rattle.printout.proofs.WholeLaws.{refused_small, refused_printed, lines_printed}
 use Rattle.printout.proofs.print_shown.Goals as goal
