@@ -1,5 +1,4 @@
-// The calls of the crates matrix and placing on segments that are taken apart (crate segment_fields). No function here has a slice of structs, so the
-// borrow checker covers each.
+// The calls of the crates matrix and placing on segments that are taken apart (crate segment_fields).
 #![tactic(auto)]
 
 ghost use Rattle.std.specs.Prelude.{◌≡◌};
