@@ -18,7 +18,7 @@ use Rattle.reg_matrix.specs.declared.ValueSegment.{ValueSegment}
 use Rattle.reg_matrix.specs.declared.Entry.{Entry}
 use Rattle.reg_matrix.specs.declared.Reservation.{Reservation}
 use Rattle.reg_matrix.specs.declared.Reservation.TheVariants.{Held, FixedUse, FixedDef}
-use Rattle.reg_matrix.specs.declared.FixedIndex.TheVariants.{At, NoIndex}
+use Rattle.std.specs.Prelude.{Some, None}
 use Rattle.reg_matrix.proofs.Places.{insert_longer}
 use Rattle.reg_matrix.proofs.Tests.{less_equal_greater}
 use Rattle.reg_matrix.proofs.Members.{◌∈◌}
@@ -132,12 +132,12 @@ module _ (j : Job) (p : Premises j) (s : State) (h : Holding) (a : Agrees j s h)
   rest_word_lem e m = let b = entry_bounded j p s h a e m in omega (arith, b.from, small e.reservation b.reservation)
     where
       small : (r : Reservation) → SmallReservation r → reservation_word r < 2 ^ 32
-      small (Held v NoIndex) b = omega (arith, b.0)
-      small (Held v (At i)) b = omega (arith, b.0, b.1)
+      small (Held v None) b = omega (arith, b.0)
+      small (Held v (Some i)) b = omega (arith, b.0, b.1)
       small (FixedUse x) b = omega arith
       small FixedDef b = omega arith
 
-  small_index : (e : Entry) → e ∈ s.table → (v i : ℕ) → e.reservation ≡ Held v (At i) → i < 512
+  small_index : (e : Entry) → e ∈ s.table → (v i : ℕ) → e.reservation ≡ Held v (Some i) → i < 512
   small_index e m v i q = (subst (λ (r : Reservation). SmallReservation r) q (entry_bounded j p s h a e m).reservation).1
 
   key : (v : ℕ) → IsNumber j v → (q : Stage) → encode j v q < 2 ^ 64

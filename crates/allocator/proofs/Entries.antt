@@ -9,8 +9,7 @@ use Rattle.reg_matrix.specs.Assign.{fixed_index}
 use Rattle.reg_matrix.specs.declared.Entry.{Entry}
 use Rattle.reg_matrix.specs.declared.Reservation.{Reservation}
 use Rattle.reg_matrix.specs.declared.Reservation.TheVariants.{Held, FixedUse, FixedDef}
-use Rattle.reg_matrix.specs.declared.FixedIndex.{FixedIndex}
-use Rattle.reg_matrix.specs.declared.FixedIndex.TheVariants.{At, NoIndex}
+use Rattle.std.specs.Prelude.{Option, Some, None}
 use Rattle.reg_matrix.proofs.Members.{◌∈◌, units_of_out}
 use Rattle.reg_matrix.proofs.Chains.{not_held}
 use Rattle.reg_matrix.proofs.Cells.{Cell}
@@ -24,9 +23,9 @@ use Rattle.allocator.proofs.Holders.{cells_of, cell_out}
 use Rattle.allocator.proofs.Agrees.{Agrees}
 use Rattle.allocator.proofs.PrintedLines.{Short, ShortIndex, ShortReservation}
 
-abbrev pub SmallIndex : FixedIndex → Type 0
-SmallIndex NoIndex = Unit {0}
-SmallIndex (At i) = i < 512
+abbrev pub SmallIndex : Option ℕ → Type 0
+SmallIndex None = Unit {0}
+SmallIndex (Some i) = i < 512
 
 abbrev pub SmallReservation : Reservation → Type 0
 SmallReservation (Held v i) = (v < 512) × SmallIndex i
@@ -48,9 +47,9 @@ module _ (j : Job) (p : Premises j) (s : State) (h : Holding) (a : Agrees j s h)
       fixed_small f (FixedUse x) q b = b
       fixed_small f FixedDef q b = tt
 
-      index_small : (v : ℕ) (i : FixedIndex) → e.reservation ≡ Held v i → SmallIndex i
-      index_small v NoIndex q = tt
-      index_small v (At i) q = omega (arith, (index_size j.fixed p.sound (cells_of j h) s.table a.table e m v i q).1, p.few_fixed)
+      index_small : (v : ℕ) (i : Option ℕ) → e.reservation ≡ Held v i → SmallIndex i
+      index_small v None q = tt
+      index_small v (Some i) q = omega (arith, (index_size j.fixed p.sound (cells_of j h) s.table a.table e m v i q).1, p.few_fixed)
 
       go : (e ∈ j.fixed) ⊎ ((c : Cell) × OfCell j.fixed (cells_of j h) e c) → Bounded e
       go (inl f) =
@@ -75,9 +74,9 @@ module _ (j : Job) (p : Premises j) (s : State) (h : Holding) (a : Agrees j s h)
       let b = entry_bounded e m in
       record { unit = omega (arith, b.unit); from = omega (arith, b.from); to = omega (arith, b.to); reservation = go e.reservation b.reservation }
     where
-      index : (i : FixedIndex) → SmallIndex i → ShortIndex i
-      index NoIndex b = tt
-      index (At i) b = omega arith
+      index : (i : Option ℕ) → SmallIndex i → ShortIndex i
+      index None b = tt
+      index (Some i) b = omega arith
 
       go : (r : Reservation) → SmallReservation r → ShortReservation r
       go (Held v i) b = (omega (arith, b.0), index i b.1)

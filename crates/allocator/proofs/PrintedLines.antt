@@ -15,8 +15,7 @@ use Rattle.reg_matrix.specs.Lines.{digits, number, sp, index_text, reservation_t
 use Rattle.reg_matrix.specs.declared.Entry.{Entry}
 use Rattle.reg_matrix.specs.declared.Reservation.{Reservation}
 use Rattle.reg_matrix.specs.declared.Reservation.TheVariants.{Held, FixedUse, FixedDef}
-use Rattle.reg_matrix.specs.declared.FixedIndex.{FixedIndex}
-use Rattle.reg_matrix.specs.declared.FixedIndex.TheVariants.{At, NoIndex}
+use Rattle.std.specs.Prelude.{Option, Some, None}
 use Rattle.reg_matrix.proofs.Tests.{both_in, never}
 use Rattle.reg_matrix.proofs.Members.{◌∈◌, not_nothing}
 
@@ -99,9 +98,9 @@ head_number n s = subst (λ (l : List ℕ). 48 ≤ get_or l 0 0) (sym (digits_ap
 
 -- ---- numbers that print whole
 
-abbrev pub ShortIndex : FixedIndex → Type 0
-ShortIndex NoIndex = Unit {0}
-ShortIndex (At i) = i < 10 ^ 20
+abbrev pub ShortIndex : Option ℕ → Type 0
+ShortIndex None = Unit {0}
+ShortIndex (Some i) = i < 10 ^ 20
 
 abbrev pub ShortReservation : Reservation → Type 0
 ShortReservation (Held v i) = (v < 10 ^ 20) × ShortIndex i
@@ -116,13 +115,13 @@ pub record Short (e : Entry) : Type 0 where
 
 -- ---- reservations
 
-abbrev as_at : ℕ × List ℕ → FixedIndex × List ℕ
-as_at a = (At a.0, a.1)
+abbrev as_at : ℕ × List ℕ → Option ℕ × List ℕ
+as_at a = (Some a.0, a.1)
 
-abbrev read_index : List ℕ → FixedIndex × List ℕ
-read_index s = cond (eqb (get_or s 0 0) 45) (NoIndex, drop 1 s) (as_at (read 0 s))
+abbrev read_index : List ℕ → Option ℕ × List ℕ
+read_index s = cond (eqb (get_or s 0 0) 45) (None, drop 1 s) (as_at (read 0 s))
 
-abbrev as_held : ℕ → FixedIndex × List ℕ → Reservation × List ℕ
+abbrev as_held : ℕ → Option ℕ × List ℕ → Reservation × List ℕ
 as_held v i = (Held v i.0, i.1)
 
 abbrev read_held : ℕ × List ℕ → Reservation × List ℕ
@@ -136,11 +135,11 @@ abbrev read_reservation : List ℕ → Reservation × List ℕ
 read_reservation s =
     cond (eqb (get_or s 1 0) 104) (read_held (read 0 (drop 6 s))) (cond (eqb (get_or s 1 0) 117) (as_use (read 0 (drop 5 s))) (FixedDef, drop 4 s))
 
-read_index_lem : (i : FixedIndex) (s : List ℕ) → ShortIndex i → read_index (index_text i ++ (10 ∷ s)) ≡ (i, 10 ∷ s)
+read_index_lem : (i : Option ℕ) (s : List ℕ) → ShortIndex i → read_index (index_text i ++ (10 ∷ s)) ≡ (i, 10 ∷ s)
 unfolding ascii
-read_index_lem NoIndex s h = refl
-read_index_lem (At i) s h =
-    ap (λ (b : Bool). cond b (NoIndex, drop 1 l) (as_at (read 0 l)))
+read_index_lem None s h = refl
+read_index_lem (Some i) s h =
+    ap (λ (b : Bool). cond b (None, drop 1 l) (as_at (read 0 l)))
     (never (eqb (get_or l 0 0) 45) (λ t. omega (arith, head_number i (10 ∷ s), eqb→eq (get_or l 0 0) 45 t)))
     ∙ ap as_at (read_number i 10 s h tt)
   where

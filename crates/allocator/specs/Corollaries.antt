@@ -9,8 +9,7 @@ use Rattle.reg_matrix.specs.Layout.{max_entries, greatest, end_word, rest_word}
 use Rattle.reg_matrix.specs.Lines.{entry_line}
 use Rattle.reg_matrix.specs.declared.ValueSegment.{ValueSegment}
 use Rattle.reg_matrix.specs.declared.Entry.{Entry}
-use Rattle.reg_matrix.specs.declared.FixedIndex.{FixedIndex}
-use Rattle.reg_matrix.specs.declared.FixedIndex.TheVariants.{At}
+use Rattle.std.specs.Prelude.{Option, Some}
 use Rattle.reg_matrix.specs.declared.Reservation.TheVariants.{Held, FixedUse}
 use Rattle.reg_matrix.specs.declared.Interference.{Interference}
 use Rattle.job.specs.Model.{Job, virt_reg, segments_of, unit_map, Plain}
@@ -77,7 +76,7 @@ pub record MayBeEvicted (j : Job) (h : Holding) (lent : List ℕ) (v : ℕ) : Ty
 pub record HeldEntry (j : Job) (h : Holding) (e : Entry) : Type 0 where
   pub number : ℕ
   pub segment : ValueSegment
-  pub index : FixedIndex
+  pub index : Option ℕ
   pub has : HasUnit j h number e.unit
   pub among : segment ∈ segments_of j number
   pub stands : e ≡ record { unit = e.unit; from = segment.from; to = segment.to; reservation = Held number index }
@@ -87,7 +86,7 @@ pub record Agreement (j : Job) (s : State) (h : Holding) : Type 0 where
   -- the table has an entry for each segment of a holder on each of its units, and what else it has is fixed
   pub table_has :
       (v u : ℕ) → HasUnit j h v u → (x : ValueSegment) → x ∈ segments_of j v
-      → (i : FixedIndex) × (record { unit = u; from = x.from; to = x.to; reservation = Held v i } ∈ s.table)
+      → (i : Option ℕ) × (record { unit = u; from = x.from; to = x.to; reservation = Held v i } ∈ s.table)
   pub table_only : (e : Entry) → e ∈ s.table → (e ∈ j.fixed) ⊎ HeldEntry j h e
   -- a number's record stands as assigned exactly where it holds that register
   pub records : (v r : ℕ) → AssignedTo (record_of s v) r ↔ (h v ≡ some r)
@@ -111,7 +110,7 @@ pub record FitsBuffers (j : Job) (s : State) : Type 0 where
   pub entries : length s.table ≤ max_entries
   pub end_words_lem : (e : Entry) → e ∈ s.table → end_word e < greatest
   pub rest_words_lem : (e : Entry) → e ∈ s.table → rest_word e < 2 ^ 64
-  pub indices : (e : Entry) → e ∈ s.table → (v i : ℕ) → e.reservation ≡ Held v (At i) → i < 512
+  pub indices : (e : Entry) → e ∈ s.table → (v i : ℕ) → e.reservation ≡ Held v (Some i) → i < 512
   -- the queue: the key of a number, at either stage
   pub keys : (v : ℕ) → v < length j.virt_regs → (q : Stage) → encode j v q < 2 ^ 64
   pub queued : (v : ℕ) (q : Stage) → get_or s.queued v none ≡ some q → v < length j.virt_regs

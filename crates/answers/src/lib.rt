@@ -2,19 +2,18 @@
 // Their definitions are those of the crates reg_matrix (Lines) and allocator (Script).
 #![tactic(auto)]
 
-ghost use Rattle.std.specs.Prelude.{◌≡◌};
 ghost use Rattle.reg_matrix.specs.Lists.{ascii};
 ghost use Rattle.reg_matrix.specs.Lines.{line as ended, kind_text, report_line};
+ghost use Rattle.reg_matrix.specs.Refused.{numbered};
 ghost use Rattle.texts.specs.Texts.{Stored};
-ghost use Rattle.answers.specs.Answers.{ending_of, answer_text, spared_text};
+ghost use Rattle.answers.specs.Answers.{answer_text, spared_text};
 
-use allocator::Ending;
-use reg_matrix::{Interference, InterferenceKind};
-use result_lines::{end_line, refused_line};
+use reg_matrix::{Interference, InterferenceKind, Refusal};
+use result_lines::{end_line, ending_of, refused_line};
 use texts::{byte, number, spaced, text};
-use unit_free::UnitFree;
 
 // `bad script`.
+#[tactic(auto, unfolding(reg_matrix::specs::Lists::ascii))]
 pub fn bad_line(line: &mut [u8]) -> usize
     ensures { Stored line.old 0 (ended (ascii "bad script")) line.new result }
 {
@@ -22,26 +21,16 @@ pub fn bad_line(line: &mut [u8]) -> usize
 }
 
 // `check`, before its reports.
+#[tactic(auto, unfolding(reg_matrix::specs::Lists::ascii))]
 pub fn check_line(line: &mut [u8]) -> usize
     ensures { Stored line.old 0 (ended (ascii "check")) line.new result }
 {
     text(line, 0, b"check\n")
 }
 
-// How a run ended, by its word's number.
-fn ending_of(word: u64) -> Ending
-    ensures { result ≡ ending_of word }
-{
-    if word == 1 {
-        return Ending::Done;
-    }
-    if word == 2 {
-        return Ending::Spent;
-    }
-    Ending::TooMany
-}
-
-// What a call answers, by its three numbers: `refused N` where the refusal is not 0; `end WORD DEQUEUES` where it has a word; else `ok`.
+// What a call answers, by the three numbers that a list of calls stores for it in lent words: `refused N` where the refusal is not 0; `end WORD DEQUEUES`
+// where it has a word; else `ok`.
+#[tactic(auto, unfolding(reg_matrix::specs::Lists::ascii, crate::specs::Answers::answer_text))]
 pub fn answer_line(line: &mut [u8], refusal: u64, word: u64, value: u64) -> usize
     ensures { Stored line.old 0 (answer_text refusal word value) line.new result }
 {
@@ -55,17 +44,19 @@ pub fn answer_line(line: &mut [u8], refusal: u64, word: u64, value: u64) -> usiz
 }
 
 // `spare`, `busy` or `refused N`.
-pub fn unit_free_line(line: &mut [u8], answer: UnitFree) -> usize
-    ensures { Stored line.old 0 (spared_text answer) line.new result }
+#[tactic(auto, unfolding(reg_matrix::specs::Lists::ascii, crate::specs::Answers::spared_text))]
+pub fn unit_free_line(line: &mut [u8], answer: Result<bool, Refusal>) -> usize
+    ensures { Stored line.old 0 (spared_text (numbered answer)) line.new result }
 {
     match answer {
-        UnitFree::Free => text(line, 0, b"spare\n"),
-        UnitFree::Taken => text(line, 0, b"busy\n"),
-        UnitFree::NotAsked(n) => refused_line(line, n as u64),
+        Ok(true) => text(line, 0, b"spare\n"),
+        Ok(false) => text(line, 0, b"busy\n"),
+        Err(r) => refused_line(line, r.number()),
     }
 }
 
 // Who stands in the way.
+#[tactic(auto, unfolding(reg_matrix::specs::Lists::ascii))]
 fn met(line: &mut [u8], at: usize, kind: InterferenceKind) -> usize
     ensures { Stored line.old at (kind_text kind) line.new result }
 {
@@ -87,7 +78,6 @@ pub fn report_line(line: &mut [u8], report: Interference) -> usize
     let c = spaced(line, b, report.segment as u64);
     let d = spaced(line, c, report.from as u64);
     let e = spaced(line, d, report.to as u64);
-    let kind = report.kind;
-    let f = met(line, e, kind);
+    let f = met(line, e, report.kind);
     byte(line, f, b'\n')
 }

@@ -1,10 +1,11 @@
 -- Lists of calls in lent numbers: which calls the words are, and what carrying them out one after another leaves and answers (document 01, "Order",
 -- "Holding"). Assumes nothing.
-use Rattle.std.specs.Prelude.{ℕ, ◌/◌, ◌≡◌, List, [], ◌∷◌, Bool, true, false, cond, ◌&&◌, ltb, leb, eqb, length}
+use Rattle.std.specs.Prelude.{ℕ, ◌/◌, ◌≡◌, List, [], ◌∷◌, Bool, true, false, cond, ◌&&◌, ltb, leb, eqb, length, Result, Ok, Err}
 use Rattle.std.specs.Float.{binary32}
 use Rattle.std.specs.Float.Ieee.{of_bits}
 use Rattle.std.proofs.lemmas.List.Edits.{sets}
 use Rattle.reg_matrix.specs.Lists.{concat_map, foldl}
+use Rattle.reg_matrix.specs.declared.Refusal.{Refusal}
 use Rattle.job.specs.Model.{Job}
 use Rattle.job.specs.Layout.{JobSlices, header_of, lists_in}
 use Rattle.job.specs.declared.JobHeader.{JobHeader}
@@ -57,6 +58,24 @@ word_number (ended e n) = ending_number e
 -- the refusal's number or 0; the word's number or 0; the register given or taken away, or the dequeues
 abbrev pub numbers_of : Answer → List ℕ
 numbers_of a = refusal_number a ∷ word_number a ∷ value_number a ∷ []
+
+-- ---- the code's answer of one call
+
+module _ {A : Type 0} where
+  -- the records afterwards: a refusal leaves them as they were
+  abbrev pub records_left : A → Result (A × ℕ × ℕ) Refusal → A
+  records_left a (Ok (b, e, x)) = b
+  records_left a (Err r) = a
+
+  -- the word's number or 0
+  abbrev pub word_in : Result (A × ℕ × ℕ) Refusal → ℕ
+  word_in (Ok (a, e, x)) = e
+  word_in (Err r) = 0
+
+  -- the register given or taken away, or the dequeues, or 0
+  abbrev pub value_in : Result (A × ℕ × ℕ) Refusal → ℕ
+  value_in (Ok (a, e, x)) = x
+  value_in (Err r) = 0
 
 -- ---- what is done
 

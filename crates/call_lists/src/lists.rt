@@ -1,26 +1,22 @@
 // Lists of calls in lent numbers, carried out one after another: placements, evictions and runs as `Context::assign`, `evict` and `Allocator::run`
 // (`allocator/mod.rs`) make them. Document 01, "Order" and "Holding".
-ghost use Rattle.std.specs.Prelude.{◌≡◌, cond, [], ◌∷◌, ◌+◌, ◌<◌, eqb, get_or, drop};
+ghost use Rattle.std.specs.Prelude.{◌≡◌, [], ◌∷◌, ◌+◌, ◌<◌, get_or, drop};
 ghost use Rattle.std.proofs.lemmas.List.Edits.{sets};
 ghost use Rattle.job.specs.Layout.{slices};
 ghost use Rattle.run_loop.specs.Running.{lent_state};
-ghost use Rattle.calls.specs.Calling.{sizes_of};
+ghost use Rattle.reg_matrix.specs.Refused.{number_in};
+ghost use Rattle.calls.specs.Calling.{afterwards, first_in, second_in, sizes_of};
 ghost use Rattle.narrow.specs.Cut.{cut};
-ghost use Rattle.call_lists.specs.Listed.{call_of, has_call, CallStored, ListDone, ListCarriedOut};
+ghost use Rattle.call_lists.specs.Listed.{call_of, has_call, records_left, word_in, value_in, CallAnswered, CallStored, ListDone, ListCarriedOut};
 
 use allocator::Assignment;
 use calls::direct::{assign, evict};
 use calls::runs::run;
 use job::JobHeader;
 use lent::{at, put};
-use narrow::{cut8, cut16, cut32};
-
-// The register that a placement gave, or 0 where it was refused.
-fn reg_given(refusal: u64, reg: u8) -> u64
-    ensures { result ≡ cond (eqb refusal 0) reg 0 }
-{
-    if refusal == 0 { reg as u64 } else { 0 }
-}
+use narrow::Narrow;
+use reg_matrix::Refusal;
+use run_loop::ending_number;
 
 // Stores the three numbers that a call answered, from place `to` on.
 fn store_numbers(out: &mut [u64], to: usize, refusal: u64, ending: u64, value: u64)
@@ -45,7 +41,7 @@ struct ListedCall {
 }
 
 impl ListedCall {
-    // A placement.
+    // A placement: the records afterwards, 0 in the place of a word, and the register.
     fn place(
         self,
         all: [Assignment; 512],
@@ -58,20 +54,19 @@ impl ListedCall {
         rests: &mut [u64],
         queue: &mut [u64],
         last: &mut [u8],
-        out: &mut [u64],
-    ) -> [Assignment; 512]
-        requires { (self.kind ≡ 1) × (self.to + 2 < 0x1_0000_0000_0000_0000) }
-        ensures { CallStored self.header (slices j64.now j32.now j16.now j8.now jf.now) (call_of (sizes_of (slices j64.now j32.now j16.now j8.now jf.now) (lent_state ends.old rests.old queue.old last.old)) self.kind self.number self.reg self.weight) (lent_state ends.old rests.old queue.old last.old) all (lent_state ends.new rests.new queue.new last.new) result out.old self.to out.new }
+    ) -> Result<([Assignment; 512], u64, u64), Refusal>
+        requires { self.kind ≡ 1 }
+        ensures { CallAnswered self.header (slices j64.now j32.now j16.now j8.now jf.now) (call_of (sizes_of (slices j64.now j32.now j16.now j8.now jf.now) (lent_state ends.old rests.old queue.old last.old)) self.kind self.number self.reg self.weight) (lent_state ends.old rests.old queue.old last.old) all (lent_state ends.new rests.new queue.new last.new) (records_left all result) (number_in result) (word_in result) (value_in result) }
     {
-        let header = self.header;
-        let reg = cut8(self.reg);
-        let mut refusal: u64 = 0;
+        let v = u16::cut(self.number);
+        let reg = u8::cut(self.reg);
+        let weight = u32::cut(self.weight);
         let after = assign(
             all,
-            header,
-            cut16(self.number),
+            self.header,
+            v,
             reg,
-            cut32(self.weight),
+            weight,
             j64,
             j32,
             j16,
@@ -81,13 +76,11 @@ impl ListedCall {
             rests,
             queue,
             last,
-            &mut refusal,
-        );
-        store_numbers(out, self.to, refusal, 0, reg_given(refusal, reg));
-        after
+        )?;
+        Ok((after, 0, reg as u64))
     }
 
-    // An eviction.
+    // An eviction: the records afterwards, 0 in the place of a word, and the register taken away.
     fn evict(
         self,
         all: [Assignment; 512],
@@ -100,18 +93,15 @@ impl ListedCall {
         rests: &mut [u64],
         queue: &mut [u64],
         last: &mut [u8],
-        out: &mut [u64],
-    ) -> [Assignment; 512]
-        requires { (self.kind ≡ 2) × (self.to + 2 < 0x1_0000_0000_0000_0000) }
-        ensures { CallStored self.header (slices j64.now j32.now j16.now j8.now jf.now) (call_of (sizes_of (slices j64.now j32.now j16.now j8.now jf.now) (lent_state ends.old rests.old queue.old last.old)) self.kind self.number self.reg self.weight) (lent_state ends.old rests.old queue.old last.old) all (lent_state ends.new rests.new queue.new last.new) result out.old self.to out.new }
+    ) -> Result<([Assignment; 512], u64, u64), Refusal>
+        requires { self.kind ≡ 2 }
+        ensures { CallAnswered self.header (slices j64.now j32.now j16.now j8.now jf.now) (call_of (sizes_of (slices j64.now j32.now j16.now j8.now jf.now) (lent_state ends.old rests.old queue.old last.old)) self.kind self.number self.reg self.weight) (lent_state ends.old rests.old queue.old last.old) all (lent_state ends.new rests.new queue.new last.new) (records_left all result) (number_in result) (word_in result) (value_in result) }
     {
-        let header = self.header;
-        let mut refusal: u64 = 0;
-        let mut taken: u64 = 0;
-        let after = evict(
+        let v = u16::cut(self.number);
+        let (after, reg) = evict(
             all,
-            header,
-            cut16(self.number),
+            self.header,
+            v,
             j64,
             j32,
             j16,
@@ -121,14 +111,11 @@ impl ListedCall {
             rests,
             queue,
             last,
-            &mut refusal,
-            &mut taken,
-        );
-        store_numbers(out, self.to, refusal, 0, taken);
-        after
+        )?;
+        Ok((after, 0, reg as u64))
     }
 
-    // A run, which any other kind stands for.
+    // A run, which any other kind stands for: the records afterwards, the number of its word, and the dequeues.
     fn run(
         self,
         all: [Assignment; 512],
@@ -141,15 +128,11 @@ impl ListedCall {
         rests: &mut [u64],
         queue: &mut [u64],
         last: &mut [u8],
-        out: &mut [u64],
-    ) -> [Assignment; 512]
-        requires { (self.kind ≡ 1 → ⊥) × (self.kind ≡ 2 → ⊥) × (self.to + 2 < 0x1_0000_0000_0000_0000) }
-        ensures { CallStored self.header (slices j64.now j32.now j16.now j8.now jf.now) (call_of (sizes_of (slices j64.now j32.now j16.now j8.now jf.now) (lent_state ends.old rests.old queue.old last.old)) self.kind self.number self.reg self.weight) (lent_state ends.old rests.old queue.old last.old) all (lent_state ends.new rests.new queue.new last.new) result out.old self.to out.new }
+    ) -> Result<([Assignment; 512], u64, u64), Refusal>
+        requires { (self.kind ≡ 1 → ⊥) × (self.kind ≡ 2 → ⊥) }
+        ensures { CallAnswered self.header (slices j64.now j32.now j16.now j8.now jf.now) (call_of (sizes_of (slices j64.now j32.now j16.now j8.now jf.now) (lent_state ends.old rests.old queue.old last.old)) self.kind self.number self.reg self.weight) (lent_state ends.old rests.old queue.old last.old) all (lent_state ends.new rests.new queue.new last.new) (records_left all result) (number_in result) (word_in result) (value_in result) }
     {
-        let mut refusal: u64 = 0;
-        let mut ending: u64 = 0;
-        let mut dequeues: u64 = 0;
-        let after = run(
+        let (after, end) = run(
             all,
             self.number,
             j64,
@@ -161,16 +144,37 @@ impl ListedCall {
             rests,
             queue,
             last,
-            &mut refusal,
-            &mut ending,
-            &mut dequeues,
-        );
-        store_numbers(out, self.to, refusal, ending, dequeues);
-        after
+        )?;
+        Ok((after, ending_number(end.ending), end.dequeues))
     }
 
-    // Makes the call by its kind. The records afterwards.
+    // Makes the call by its kind.
     fn make(
+        self,
+        all: [Assignment; 512],
+        j64: &[u64],
+        j32: &[u32],
+        j16: &[u16],
+        j8: &[u8],
+        jf: &[f32],
+        ends: &mut [u64],
+        rests: &mut [u64],
+        queue: &mut [u64],
+        last: &mut [u8],
+    ) -> Result<([Assignment; 512], u64, u64), Refusal>
+        ensures { CallAnswered self.header (slices j64.now j32.now j16.now j8.now jf.now) (call_of (sizes_of (slices j64.now j32.now j16.now j8.now jf.now) (lent_state ends.old rests.old queue.old last.old)) self.kind self.number self.reg self.weight) (lent_state ends.old rests.old queue.old last.old) all (lent_state ends.new rests.new queue.new last.new) (records_left all result) (number_in result) (word_in result) (value_in result) }
+    {
+        if self.kind == 1 {
+            return self.place(all, j64, j32, j16, j8, jf, ends, rests, queue, last);
+        }
+        if self.kind == 2 {
+            return self.evict(all, j64, j32, j16, j8, jf, ends, rests, queue, last);
+        }
+        self.run(all, j64, j32, j16, j8, jf, ends, rests, queue, last)
+    }
+
+    // Makes the call and stores its answer. The records afterwards.
+    fn carry_out(
         self,
         all: [Assignment; 512],
         j64: &[u64],
@@ -187,13 +191,18 @@ impl ListedCall {
         requires { self.to + 2 < 0x1_0000_0000_0000_0000 }
         ensures { CallStored self.header (slices j64.now j32.now j16.now j8.now jf.now) (call_of (sizes_of (slices j64.now j32.now j16.now j8.now jf.now) (lent_state ends.old rests.old queue.old last.old)) self.kind self.number self.reg self.weight) (lent_state ends.old rests.old queue.old last.old) all (lent_state ends.new rests.new queue.new last.new) result out.old self.to out.new }
     {
-        if self.kind == 1 {
-            return self.place(all, j64, j32, j16, j8, jf, ends, rests, queue, last, out);
+        match self.make(all, j64, j32, j16, j8, jf, ends, rests, queue, last) {
+            Ok(done) => {
+                store_numbers(out, self.to, 0, done.1, done.2);
+                // tried, and not covered by the check: the array given back straight from the pattern
+                let after = done.0;
+                after
+            }
+            Err(refusal) => {
+                store_numbers(out, self.to, refusal.number(), 0, 0);
+                all
+            }
         }
-        if self.kind == 2 {
-            return self.evict(all, j64, j32, j16, j8, jf, ends, rests, queue, last, out);
-        }
-        self.run(all, j64, j32, j16, j8, jf, ends, rests, queue, last, out)
     }
 }
 
@@ -232,7 +241,7 @@ fn call_at(header: JobHeader, list: &[u64], from: usize, to: usize) -> ListedCal
     }
 }
 
-// Carries out the calls of the list one after another. `done` takes how many there were.
+// Carries out the calls of the list one after another: the records afterwards, and how many calls there were.
 fn carry_out_calls(
     records: [Assignment; 512],
     header: JobHeader,
@@ -247,33 +256,33 @@ fn carry_out_calls(
     queue: &mut [u64],
     last: &mut [u8],
     out: &mut [u64],
-    done: &mut u64,
-) -> [Assignment; 512]
-    ensures { ListDone header (slices j64.now j32.now j16.now j8.now jf.now) list.now (lent_state ends.old rests.old queue.old last.old) records out.old (lent_state ends.new rests.new queue.new last.new) result out.new done.new }
+) -> ([Assignment; 512], u64)
+    ensures { ListDone header (slices j64.now j32.now j16.now j8.now jf.now) list.now (lent_state ends.old rests.old queue.old last.old) records out.old (lent_state ends.new rests.new queue.new last.new) result.0 out.new result.1 }
 {
     let mut all = records;
     let mut from: usize = 0;
     let mut to: usize = 0;
     let mut calls: u64 = 0;
+    // a `for` is no plainer here: the list ends at a word that is no kind, and what answers is the number of calls
     while has_call(list, from) {
         let call = call_at(header, list, from, to);
-        let after = call.make(all, j64, j32, j16, j8, jf, ends, rests, queue, last, out);
+        // tried, and not covered by the check: the call's array given straight to `all`
+        let after = call.carry_out(all, j64, j32, j16, j8, jf, ends, rests, queue, last, out);
         all = after;
         from += 4;
         to += 3;
         calls += 1;
     }
-    *done = calls;
-    all
+    (all, calls)
 }
 
 // Carries out a list of calls, one after another, each on what the last one left; a refused one changes nothing, and the next is made all the same. A
 // call is four words: its kind (1 a placement, 2 an eviction, 3 a run), a number or the run's budget, a register, and the bits of a weight; a kind
 // reads what it needs of them. A number that has no room in 16 bits, a register in 8 or bits in 32 stand for the greatest there, which is refused. The
 // list ends where four words are no longer left, or at a word that is no kind. For each call three numbers go into the answers, from their front on:
-// the refusal or 0; the word of a run (1 done, 2 spent, 3 toomany) or 0; the register given or taken away, or the dequeues. `done` takes how many
-// calls were made. `refusal` takes 0, or 15 where the answers do not have three places for each four words of the list, and then nothing is changed.
-// What returns is the records afterwards.
+// the refusal or 0; the word of a run (1 done, 2 spent, 3 toomany) or 0; the register given or taken away, or the dequeues. What returns is the records
+// afterwards, and how many calls were made. The list is refused with 15 where the answers do not have three places for each four words of it, and then
+// nothing is changed.
 pub fn carry_out_list(
     records: [Assignment; 512],
     header: JobHeader,
@@ -288,18 +297,13 @@ pub fn carry_out_list(
     queue: &mut [u64],
     last: &mut [u8],
     answers: &mut [u64],
-    refusal: &mut u64,
-    done: &mut u64,
-) -> [Assignment; 512]
-    ensures { ListCarriedOut header (slices j64.now j32.now j16.now j8.now jf.now) list.now (lent_state ends.old rests.old queue.old last.old) records answers.old (lent_state ends.new rests.new queue.new last.new) result answers.new refusal.new done.new }
+) -> Result<([Assignment; 512], u64), Refusal>
+    ensures { ListCarriedOut header (slices j64.now j32.now j16.now j8.now jf.now) list.now (lent_state ends.old rests.old queue.old last.old) records answers.old (lent_state ends.new rests.new queue.new last.new) (afterwards records (first_in result)) answers.new (number_in result) (second_in result) }
 {
     if answers.len() / 3 < list.len() / 4 {
-        *refusal = 15;
-        *done = 0;
-        return records;
+        return Err(Refusal::ShortBuffer);
     }
-    *refusal = 0;
-    carry_out_calls(
-        records, header, list, j64, j32, j16, j8, jf, ends, rests, queue, last, answers, done,
-    )
+    Ok(carry_out_calls(
+        records, header, list, j64, j32, j16, j8, jf, ends, rests, queue, last, answers,
+    ))
 }

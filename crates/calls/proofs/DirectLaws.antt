@@ -9,7 +9,11 @@ use lib.Dec.{T, leb, nleb→lt}
 use lib.Ieee.{binary32, of_bits}
 use lib.ListN.{length, get_or, set, get_or-eq_default}
 use lib.Seq.{set-get_or}
+use Rattle.std.specs.Prelude.{Result, Ok, Err}
 use Rattle.reg_matrix.specs.Lists.{is_some}
+use Rattle.reg_matrix.specs.Refused.{number_of as refused_number, number_in, refusal_in}
+use Rattle.reg_matrix.specs.declared.Refusal.{Refusal}
+use Rattle.reg_matrix.specs.declared.Refusal.TheVariants.{ShortJob, Tail, UnfitMap, OverLimit, Empty, BadPoint, Unsorted, UnknownNumber, BadWeight, Twin, MixedSet, CutUse, WrongStanding, Interference, ShortBuffer}
 use Rattle.reg_matrix.specs.Refusals.{refusal, short_buffer}
 use Rattle.lent.proofs.Laws.{any_default}
 use Rattle.reg_matrix.proofs.Places.{from_zero}
@@ -38,6 +42,32 @@ use Rattle.call_tests.specs.Testing.{clear_to, place_tests, evict_tests}
 use Rattle.run_loop.specs.Running.{lent_state}
 use Rattle.calls.specs.Calling.{refusal_number, value_number, sizes_of, StateStands, unknown_to, place_answer, evict_answer, Placed, Evicted}
 use Rattle.call_tests.proofs.RefusalLaws.{none_placing, none_evicting, named_read, clear_read, held_is, placing_tests, evicting_tests, refused_first}
+
+-- ---- an answer's number
+
+-- a refusal has a number
+pub some_number : (e : Refusal) → refused_number e ≡ 0 → ⊥
+some_number ShortJob q = omega arith
+some_number Tail q = omega arith
+some_number UnfitMap q = omega arith
+some_number OverLimit q = omega arith
+some_number Empty q = omega arith
+some_number BadPoint q = omega arith
+some_number Unsorted q = omega arith
+some_number UnknownNumber q = omega arith
+some_number BadWeight q = omega arith
+some_number Twin q = omega arith
+some_number MixedSet q = omega arith
+some_number CutUse q = omega arith
+some_number WrongStanding q = omega arith
+some_number Interference q = omega arith
+some_number ShortBuffer q = omega arith
+
+module _ {A : Type 0} where
+  -- the number in an answer is that of its refusal
+  pub number_is : (r : Result A Refusal) → number_in r ≡ number_of (refusal_in r)
+  number_is (Ok a) = refl
+  number_is (Err e) = refl
 
 -- ---- any call
 

@@ -5,7 +5,7 @@ use native.Mathlib.Omega.{arith}
 use mathlib.Core.Path.{◌≡◌, refl, ap, ◌∙◌}
 use mathlib.Core.List.{List, [], ◌∷◌, ◌++◌, append_assoc}
 use mathlib.Core.Option.{Option, none, some}
-use mathlib.Core.Bool.{Bool, true, false}
+use mathlib.Core.Bool.{Bool}
 use lib.Dec.{leb, nleb→lt}
 use lib.ListN.{length, get_or, take, replicate}
 use lib.Seq.{take_at}
@@ -17,9 +17,10 @@ use Rattle.reg_matrix.specs.Check.{check}
 use Rattle.reg_matrix.specs.declared.ValueSegment.{ValueSegment}
 use Rattle.reg_matrix.proofs.Places.{padded_read}
 use Rattle.entries.specs.Moves.{words}
-use Rattle.unit_free.specs.Spare.{free_at, range, spare_answer}
+use Rattle.unit_free.specs.Spare.{free_at, range}
 use Rattle.table_words.specs.Segments.{segments_in}
-use Rattle.matrix.specs.Walk.{Lent, entered, remaining, start_of}
+use Rattle.reg_matrix.specs.Refused.{or_refused}
+use Rattle.matrix.specs.Walk.{Lent, entered, remaining}
 use Rattle.job.specs.Model.{Job, unit_map}
 use Rattle.job.specs.Layout.{job_buffers}
 use Rattle.allocator.specs.State.{State}
@@ -49,22 +50,17 @@ module _ (j : Job) (s : State) (r : Reached j s) (et rt ends rests : List ℕ) (
   pub spare_asked :
       (u from to : ℕ)
       → from < 2 ^ 32
-      → spared_of (spare_answer (spare_refusal (length ends ∷ length rests ∷ []) u (range from to)) (free_at u from to (words ends rests)))
+      → spared_of (or_refused (spare_refusal (length ends ∷ length rests ∷ []) u (range from to)) (free_at u from to (words ends rests)))
       ≡ ask_spare (length ends ∷ length rests ∷ []) s.table u (range from to)
   unfolding ask_spare
   spare_asked u from to h = go (spare_refusal (length ends ∷ length rests ∷ []) u (range from to)) refl
     where
-      free : (b : Bool) → spared_of (spare_answer none b) ≡ is_spare b
-      free true = refl
-      free false = refl
-
       go : (o : Option ℕ) → spare_refusal (length ends ∷ length rests ∷ []) u (range from to) ≡ o
-          → spared_of (spare_answer o (free_at u from to (words ends rests))) ≡ or_spare o (is_unit_free s.table u (range from to))
+          → spared_of (or_refused o (free_at u from to (words ends rests))) ≡ or_spare o (is_unit_free s.table u (range from to))
       go (some n) e = refl
       go none e =
           let g = good_reached j s r in
-          free (free_at u from to (words ends rests))
-          ∙ ap is_spare
+          ap is_spare
           (spare_found_lem j s g et rt (words ends rests) (table_stands j s g ends rests et rt st.ends_are st.rests_are) u from to
           (known_unit _ u (range from to) e) h)
 
@@ -96,7 +92,7 @@ module _ (j : Job) (s : State) (r : Reached j s) (maps : List ℕ) (bm : Begins 
       (full : Bool) (reg : ℕ)
       → get_or W.froms 0 0 < 2 ^ 32
       → checked_of W
-      (start_of (check_refusal (check_sizes maps W) (take (length j.regs) maps) reg (segments_in W.froms W.tos W.values))
+      (or_refused (check_refusal (check_sizes maps W) (take (length j.regs) maps) reg (segments_in W.froms W.tos W.values))
       (entered W.ends W.froms (get_or maps reg 0) full))
       ≡ ask_check (check_sizes maps W) j.regs j.fixed s.table full reg (segments_in W.froms W.tos W.values)
   unfolding ask_check job_buffers
@@ -106,7 +102,7 @@ module _ (j : Job) (s : State) (r : Reached j s) (maps : List ℕ) (bm : Begins 
       ss = segments_in W.froms W.tos W.values
 
       go : (o : Option ℕ) → check_refusal (check_sizes maps W) j.regs reg ss ≡ o
-          → checked_of W (start_of o (entered W.ends W.froms (get_or maps reg 0) full)) ≡ or_reports o (check full j.fixed s.table (unit_map j reg) ss)
+          → checked_of W (or_refused o (entered W.ends W.froms (get_or maps reg 0) full)) ≡ or_reports o (check full j.fixed s.table (unit_map j reg) ss)
       go (some n) e = refl
       go none e =
           let g = good_reached j s r in

@@ -1,9 +1,10 @@
 -- What a direct call answers and leaves in what is lent (document 01, "Order", "What the stage answers"). Assumes nothing.
-use Rattle.std.specs.Prelude.{ℕ, ◌≡◌, List, [], ◌∷◌, Bool, true, leb, length, get_or, set}
+use Rattle.std.specs.Prelude.{ℕ, ◌≡◌, List, [], ◌∷◌, Bool, true, leb, length, get_or, set, Result, Ok, Err}
 use Rattle.std.specs.Float.{binary32}
 use Rattle.std.specs.Float.Ieee.{of_bits}
 use Rattle.reg_matrix.specs.Refusals.{refusal, short_buffer}
 use Rattle.table_words.specs.Segments.{refusal_number as number_of}
+use Rattle.reg_matrix.specs.declared.Refusal.{Refusal}
 use Rattle.job.specs.Model.{Job}
 use Rattle.job.specs.Layout.{JobSlices, lists_in, header_of}
 use Rattle.job.specs.declared.JobHeader.{JobHeader}
@@ -16,6 +17,7 @@ use Rattle.allocator.specs.Reached.{Reached}
 use Rattle.allocator.specs.Run.{run}
 use Rattle.records.specs.Fields.{flag_in, reg_in}
 use Rattle.moves.specs.Standing.{JobStands, Stands}
+use Rattle.run_loop.specs.declared.RunEnd.{RunEnd}
 use Rattle.run_loop.specs.Running.{ending_number}
 use Rattle.call_tests.specs.Testing.{named_to, unknown_in, clear_to, place_tests, evict_tests}
 
@@ -34,6 +36,35 @@ value_number (refused n) = 0
 value_number (placed r) = r
 value_number (evicted r) = r
 value_number (ended e n) = n
+
+-- ---- what the code answers
+
+module _ {A : Type 0} where
+  -- what was there, or what the answer gives in its place: a refusal changes nothing
+  abbrev pub afterwards : A → Result A Refusal → A
+  afterwards a (Ok b) = b
+  afterwards a (Err r) = a
+
+  -- the number beside what the answer gives, or 0
+  abbrev pub second_in : Result (A × ℕ) Refusal → ℕ
+  second_in (Ok (a, r)) = r
+  second_in (Err e) = 0
+
+  -- the number of a run's word, or 0
+  abbrev pub ending_in : Result (A × RunEnd) Refusal → ℕ
+  ending_in (Ok (a, end)) = ending_number end.ending
+  ending_in (Err e) = 0
+
+  -- its dequeues, or 0
+  abbrev pub dequeues_in : Result (A × RunEnd) Refusal → ℕ
+  dequeues_in (Ok (a, end)) = end.dequeues
+  dequeues_in (Err e) = 0
+
+module _ {A B : Type 0} where
+  -- an answer's first part alone
+  abbrev pub first_in : Result (A × B) Refusal → Result A Refusal
+  first_in (Ok (a, b)) = Ok a
+  first_in (Err e) = Err e
 
 -- ---- what is lent
 

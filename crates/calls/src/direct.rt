@@ -1,58 +1,39 @@
 // Direct placements and evictions: `Context::assign` and `evict` (`allocator/mod.rs`), as calls of their own.
-ghost use Rattle.std.specs.Prelude.{◌≡◌, cond, List, eqb, get_or, set};
+ghost use Rattle.std.specs.Prelude.{◌≡◌, List, get_or, set};
 ghost use Rattle.allocator.specs.declared.Assignment.{Assignment};
 ghost use Rattle.allocator.specs.declared.Assignment.TheVariants.{Dead};
 ghost use Rattle.job.specs.Layout.{slices};
 ghost use Rattle.run_loop.specs.Running.{lent_state};
-ghost use Rattle.calls.specs.Calling.{place_answer, Placed, Evicted};
+ghost use Rattle.reg_matrix.specs.Refused.{number_in};
+ghost use Rattle.calls.specs.Calling.{afterwards, first_in, second_in, place_answer, Placed, Evicted};
 
 use allocator::Assignment;
 use call_tests::{evict_refusal, place_refusal, short_buffers};
 use job::JobHeader;
+use lent::put;
 use moves::{take, take_back};
 use records::assignment::reg_of;
 use records::changes::{placed, waiting};
+use reg_matrix::Refusal;
 
 // The record of v. A number above 511 has none.
 fn record_at(records: [Assignment; 512], v: u16) -> Assignment
     ensures { result ≡ get_or records v Dead }
 {
-    let i = v as usize;
-    if 512 <= i {
-        return Assignment::Dead;
-    }
-    records[i]
+    records.get(v as usize).copied().unwrap_or(Assignment::Dead)
 }
 
 // The records with that of v in its place.
 fn with_record(records: [Assignment; 512], v: u16, a: Assignment) -> [Assignment; 512]
     ensures { result ≡ set records v a }
 {
-    let i = v as usize;
-    if 512 <= i {
-        return records;
-    }
     let mut all = records;
-    all[i] = a;
+    put(&mut all, v as usize, a);
     all
 }
 
-fn wide(x: u8) -> u64
-    ensures { result ≡ x }
-{
-    x as u64
-}
-
-// What a direct call answers: the number of its refusal or 0, the register given or taken away or 0, and the record of its number afterwards.
-#[derive(Clone, Copy)]
-pub struct Answered {
-    pub refusal: u64,
-    pub reg: u64,
-    pub record: Assignment,
-}
-
 // A placement that is asked for: of v in the register, with the weight of these binary32 bits.
-#[derive(Clone, Copy)]
+#[derive(Clone, Copy, PartialEq, Eq, Debug)]
 pub struct Placement {
     pub v: u16,
     pub reg: u8,
@@ -60,7 +41,7 @@ pub struct Placement {
 }
 
 impl Placement {
-    // Its refusal, or 0, where `a` is the record of v. It reads, and changes nothing.
+    // Why it is refused, where `a` is the record of v. It reads, and changes nothing.
     fn refusal(
         self,
         a: Assignment,
@@ -74,8 +55,8 @@ impl Placement {
         rests: &[u64],
         queue: &[u64],
         last: &[u8],
-    ) -> u64
-        ensures { result ≡ place_answer header (slices j64.now j32.now j16.now j8.now jf.now) self.v self.reg self.weight (lent_state ends.now rests.now queue.now last.now) a }
+    ) -> Result<(), Refusal>
+        ensures { number_in result ≡ place_answer header (slices j64.now j32.now j16.now j8.now jf.now) self.v self.reg self.weight (lent_state ends.now rests.now queue.now last.now) a }
     {
         place_refusal(
             short_buffers(j64, j32, j16, j8, jf, ends, rests, queue, last),
@@ -111,35 +92,24 @@ impl Placement {
         rests: &mut [u64],
         queue: &mut [u64],
         last: &mut [u8],
-    ) -> Answered
-        ensures { ((rs : List Assignment) → a ≡ get_or rs self.v Dead → Placed header (slices j64.now j32.now j16.now j8.now jf.now) self.v self.reg self.weight (lent_state ends.old rests.old queue.old last.old) rs (lent_state ends.new rests.new queue.new last.new) (set rs self.v result.record) result.refusal) × (result.reg ≡ cond (eqb result.refusal 0) self.reg 0) }
+    ) -> Result<Assignment, Refusal>
+        ensures { (rs : List Assignment) → a ≡ get_or rs self.v Dead → Placed header (slices j64.now j32.now j16.now j8.now jf.now) self.v self.reg self.weight (lent_state ends.old rests.old queue.old last.old) rs (lent_state ends.new rests.new queue.new last.new) (set rs self.v (afterwards a result)) (number_in result) }
     {
-        let refusal = self.refusal(a, header, j64, j32, j16, j8, jf, ends, rests, queue, last);
-        if refusal != 0 {
-            return Answered {
-                refusal,
-                reg: 0,
-                record: a,
-            };
-        }
+        self.refusal(a, header, j64, j32, j16, j8, jf, ends, rests, queue, last)?;
         take(self.v, self.reg, j64, j32, j16, ends, rests, queue, last);
-        Answered {
-            refusal: 0,
-            reg: wide(self.reg),
-            record: placed(a, self.reg, self.weight),
-        }
+        Ok(placed(a, self.reg, self.weight))
     }
 }
 
 // An eviction that is asked for.
-#[derive(Clone, Copy)]
+#[derive(Clone, Copy, PartialEq, Eq, Debug)]
 pub struct Eviction {
     pub v: u16,
 }
 
 impl Eviction {
-    // Makes the eviction, where `a` is the record of v: its entries leave the table, and it is queued at stage Evict. The record afterwards keeps the
-    // flag. Refused, nothing is changed: 15 where a buffer is short, 8 where there is no such number, 13 where v holds no register.
+    // Makes the eviction, where `a` is the record of v: its entries leave the table, and it is queued at stage Evict. Answers the record afterwards,
+    // which keeps the flag, and the register that it held. Refused, nothing is changed: 15 where a buffer is short, 8 where there is no such number, 13 where v holds no register.
     pub fn evict(
         self,
         a: Assignment,
@@ -153,32 +123,21 @@ impl Eviction {
         rests: &mut [u64],
         queue: &mut [u64],
         last: &[u8],
-    ) -> Answered
-        ensures { (rs : List Assignment) → a ≡ get_or rs self.v Dead → Evicted header (slices j64.now j32.now j16.now j8.now jf.now) self.v (lent_state ends.old rests.old queue.old last.now) rs (lent_state ends.new rests.new queue.new last.now) (set rs self.v result.record) result.refusal result.reg }
+    ) -> Result<(Assignment, u8), Refusal>
+        ensures { (rs : List Assignment) → a ≡ get_or rs self.v Dead → Evicted header (slices j64.now j32.now j16.now j8.now jf.now) self.v (lent_state ends.old rests.old queue.old last.now) rs (lent_state ends.new rests.new queue.new last.now) (set rs self.v (afterwards a (first_in result))) (number_in result) (second_in result) }
     {
         let short = short_buffers(j64, j32, j16, j8, jf, ends, rests, queue, last);
-        let refused = evict_refusal(short, a, header.virt_regs, self.v);
-        if refused != 0 {
-            return Answered {
-                refusal: refused,
-                reg: 0,
-                record: a,
-            };
-        }
+        evict_refusal(short, a, header.virt_regs, self.v)?;
         let reg = reg_of(a);
         take_back(self.v, reg, j64, j32, j16, ends, rests, queue);
-        Answered {
-            refusal: 0,
-            reg: wide(reg),
-            record: waiting(a),
-        }
+        Ok((waiting(a), reg))
     }
 }
 
 // Places v in the register, with the weight of these binary32 bits: its segments go into the table, it leaves the queue, its record says so and keeps
-// its flag, and the register is the last one of its set. The records afterwards; `answer` is 0, or the number of the refusal, and then nothing is
-// changed: 15 where a buffer is short, 8 where there is no such number or register or v may not have it, 9 where the weight is infinite, no number or
-// has the sign, 13 where v is not unassigned, 14 where the check reports anything.
+// its flag, and the register is the last one of its set. Answers the records afterwards. Refused, nothing is changed: 15 where a buffer is short, 8
+// where there is no such number or register or v may not have it, 9 where the weight is infinite, no number or has the sign, 13 where v is not
+// unassigned, 14 where the check reports anything.
 pub fn assign(
     records: [Assignment; 512],
     header: JobHeader,
@@ -194,21 +153,17 @@ pub fn assign(
     rests: &mut [u64],
     queue: &mut [u64],
     last: &mut [u8],
-    answer: &mut u64,
-) -> [Assignment; 512]
-    ensures { Placed header (slices j64.now j32.now j16.now j8.now jf.now) v reg weight (lent_state ends.old rests.old queue.old last.old) records (lent_state ends.new rests.new queue.new last.new) result answer.new }
+) -> Result<[Assignment; 512], Refusal>
+    ensures { Placed header (slices j64.now j32.now j16.now j8.now jf.now) v reg weight (lent_state ends.old rests.old queue.old last.old) records (lent_state ends.new rests.new queue.new last.new) (afterwards records result) (number_in result) }
 {
     let a = record_at(records, v);
     let asked = Placement { v, reg, weight };
-    let done = asked.place(a, header, j64, j32, j16, j8, jf, ends, rests, queue, last);
-    *answer = done.refusal;
-    let after = done.record;
-    with_record(records, v, after)
+    let after = asked.place(a, header, j64, j32, j16, j8, jf, ends, rests, queue, last)?;
+    Ok(with_record(records, v, after))
 }
 
-// Evicts v: its entries leave the table, it is queued at stage Evict, and its record says so and keeps its flag. The records afterwards; `answer` is 0
-// and `taken` the register that v held, or `answer` is the number of the refusal and `taken` 0, and then nothing is changed: 15 where a buffer is short,
-// 8 where there is no such number, 13 where v holds no register.
+// Evicts v: its entries leave the table, it is queued at stage Evict, and its record says so and keeps its flag. Answers the records afterwards and the
+// register that v held. Refused, nothing is changed: 15 where a buffer is short, 8 where there is no such number, 13 where v holds no register.
 pub fn evict(
     records: [Assignment; 512],
     header: JobHeader,
@@ -222,16 +177,11 @@ pub fn evict(
     rests: &mut [u64],
     queue: &mut [u64],
     last: &[u8],
-    answer: &mut u64,
-    taken: &mut u64,
-) -> [Assignment; 512]
-    ensures { Evicted header (slices j64.now j32.now j16.now j8.now jf.now) v (lent_state ends.old rests.old queue.old last.now) records (lent_state ends.new rests.new queue.new last.now) result answer.new taken.new }
+) -> Result<([Assignment; 512], u8), Refusal>
+    ensures { Evicted header (slices j64.now j32.now j16.now j8.now jf.now) v (lent_state ends.old rests.old queue.old last.now) records (lent_state ends.new rests.new queue.new last.now) (afterwards records (first_in result)) (number_in result) (second_in result) }
 {
     let a = record_at(records, v);
     let asked = Eviction { v };
-    let done = asked.evict(a, header, j64, j32, j16, j8, jf, ends, rests, queue, last);
-    *answer = done.refusal;
-    *taken = done.reg;
-    let after = done.record;
-    with_record(records, v, after)
+    let (after, reg) = asked.evict(a, header, j64, j32, j16, j8, jf, ends, rests, queue, last)?;
+    Ok((with_record(records, v, after), reg))
 }

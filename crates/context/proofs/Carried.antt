@@ -19,7 +19,7 @@ use Rattle.allocator.specs.State.{State, held_by, is_left_over, flag, is_unassig
 use Rattle.allocator.specs.Layout.{StateBuffers, queue_words, last_words}
 use Rattle.job.proofs.Premises.{IsNumber}
 use Rattle.reg_matrix.proofs.Tests.{both}
-use Rattle.allocator.specs.Dequeue.{Decision, leaves, takes, splits, fails, decide, state_of, evict_all, carry_out, dequeue}
+use Rattle.allocator.specs.Dequeue.{Decision, takes, decide, state_of, evict_all, carry_out, dequeue}
 use Rattle.allocator.proofs.Runs.{evict_all_keeps}
 use Rattle.allocator.proofs.Good.{Good, Idle, good_reached, queued_idle, takes_good, reached_evict_all}
 use Rattle.allocator.proofs.Records.{give_records, leave_records, requeue_records, lose_last, leave_last, requeue_last}
@@ -31,17 +31,16 @@ use Rattle.moves.proofs.MoveLaws.{unqueued, queued_at_lem}
 use Rattle.record_words.specs.Words.{record_word, record_in, PlainRecord, WordsOf}
 use Rattle.record_words.proofs.WordLaws.{word_read, word_set, dead_word}
 use Rattle.record_words.proofs.PlainRecords.{records_length}
-use Rattle.decisions.specs.declared.Fate.{Fate}
-use Rattle.decisions.specs.declared.Fate.TheVariants.{Leaves, Takes, Evicts, Splits, Fails}
 use Rattle.decisions.specs.declared.Decided.{Decided}
-use Rattle.decisions.specs.Deciding.{members, decision_by, decision_of}
+use Rattle.decisions.specs.declared.Decided.TheVariants.{Leaves, Takes, Evicts, Splits, Fails}
+use Rattle.decisions.specs.Deciding.{members, decision_of}
 use Rattle.records.specs.Fields.{flag_in}
-use Rattle.context.specs.Carrying.{EvictedAll, given_record, Settled, is_evicting, is_taking, CarriedOut}
+use Rattle.context.specs.Carrying.{EvictedAll, given_record, Settled, CarriedOut}
 
--- a decision by the fate
-by_fate : (d : Decided) (x : Fate) (y : Decision) → d.fate ≡ x → decision_by x d ≡ y → (j : Job) (s : State) (v : ℕ) (q : Stage) → decision_of d ≡ decide j s v q → state_of (dequeue j s v q) ≡ state_of (carry_out j s v y)
+-- carrying out what was decided
+as_decided : (d e : Decided) → d ≡ e → (j : Job) (s : State) (v : ℕ) (q : Stage) → decision_of d ≡ decide j s v q → state_of (dequeue j s v q) ≡ state_of (carry_out j s v (decision_of e))
 unfolding dequeue
-by_fate d x y e k j s v q is = ap (λ (z : Decision). state_of (carry_out j s v z)) (sym is ∙ ap (λ (z : Fate). decision_by z d) e ∙ k)
+as_decided d e p j s v q is = ap (λ (z : Decision). state_of (carry_out j s v z)) (sym is ∙ ap decision_of p)
 
 idle_unassigned : (j : Job) (s : State) (v : ℕ) → Idle j s v → T (is_unassigned s v)
 idle_unassigned j s v i = go (held_by s v) (is_left_over s v) i.holds_nothing i.stays
@@ -94,28 +93,6 @@ module _ (v : ℕ) (c : CandidateReg) (f : Bool) (B : JobBuffers) (ends rests qu
             );
       }
 
--- ---- others are evicted first, or nothing changes
-
-pub record Cleared (evicts : Bool) (gone : List Bool) (B : JobBuffers) (ends rests queue W ends₁ rests₁ queue₁ W₁ : List ℕ) : Type 0 where
-  pub evicted : evicts ≡ true → EvictedAll gone B ends rests queue W ends₁ rests₁ queue₁ W₁
-  pub stayed : evicts ≡ false → (ends₁ ≡ ends) × (rests₁ ≡ rests) × (queue₁ ≡ queue) × (W₁ ≡ W)
-
-module _ (e : Bool) (gone : List Bool) (B : JobBuffers) (ends rests queue W ends₁ rests₁ queue₁ W₁ : List ℕ) where
-  pub cleared_evicts :
-      (ends₂ rests₂ queue₂ W₂ : List ℕ)
-      → e ≡ true
-      → EvictedAll gone B ends rests queue W ends₂ rests₂ queue₂ W₂
-      → ends₁ ≡ ends₂
-      → rests₁ ≡ rests₂
-      → queue₁ ≡ queue₂
-      → W₁ ≡ W₂
-      → Cleared e gone B ends rests queue W ends₁ rests₁ queue₁ W₁
-  cleared_evicts ends₂ rests₂ queue₂ W₂ on ea pe pr pq pw =
-      record { evicted = λ x. rw (pe, pr, pq, pw) ea; stayed = λ x. absurd (subst T (sym on ∙ x) tt) }
-
-  pub cleared_stays : e ≡ false → ends₁ ≡ ends → rests₁ ≡ rests → queue₁ ≡ queue → W₁ ≡ W → Cleared e gone B ends rests queue W ends₁ rests₁ queue₁ W₁
-  cleared_stays off pe pr pq pw = record { evicted = λ x. absurd (subst T (sym x ∙ off) tt); stayed = λ x. (pe, pr, pq, pw) }
-
 -- ---- a decision
 
 module _ (d : Decided) (v : ℕ) (B : JobBuffers) (ends rests queue last W : List ℕ) where
@@ -139,13 +116,13 @@ module _ (d : Decided) (v : ℕ) (B : JobBuffers) (ends rests queue last W : Lis
       }
 
   -- left over
-  carried_leaves : d.fate ≡ Leaves → (queue' : List ℕ) → queue' ≡ set_word v 0 queue → (W' : List ℕ) → W' ≡ set W v (record_word Dead) → Out ends rests queue' last W'
+  carried_leaves : d ≡ Leaves → (queue' : List ℕ) → queue' ≡ set_word v 0 queue → (W' : List ℕ) → W' ≡ set W v (record_word Dead) → Out ends rests queue' last W'
   unfolding leave carry_out
   carried_leaves x queue' pq W' pw =
       outcome ends rests queue' last W'
       (λ j s t q g i e st dec. (
         leave v s,
-        by_fate d Leaves leaves x refl j s v q dec,
+        as_decided d Leaves x j s v q dec,
         record {
           moves =
               record {
@@ -173,7 +150,7 @@ module _ (d : Decided) (v : ℕ) (B : JobBuffers) (ends rests queue last W : Lis
   same_records j s g i q is = subst (λ (rs : List Assignment). WordsOf rs W) (sym (requeue_records j s g v i.known q)) is
 
   -- back to the queue at stage Split
-  carried_splits : d.fate ≡ Splits → (queue' : List ℕ) → queue' ≡ set_word v (key_in B v Split + 1) queue → Out ends rests queue' last W
+  carried_splits : d ≡ Splits → (queue' : List ℕ) → queue' ≡ set_word v (key_in B v Split + 1) queue → Out ends rests queue' last W
   unfolding requeue carry_out
   carried_splits x queue' pq =
       outcome ends rests queue' last W
@@ -181,19 +158,19 @@ module _ (d : Decided) (v : ℕ) (B : JobBuffers) (ends rests queue last W : Lis
       let word : queue' ≡ queue_words j (requeue v (some Split) s) ++ t.queue =
       pq ∙ queued_at_lem j s g (requeue v (some Split) s) v i.known t.queue queue st.moves.queue_is Split refl B e.hint_starts e.sizes_are in (
         requeue v (some Split) s,
-        by_fate d Splits splits x refl j s v q dec,
+        as_decided d Splits x j s v q dec,
         requeued j s t g i (some Split) queue' word st,
         same_records j s g i (some Split),
       ))
 
   -- off the queue, and the run ends
-  carried_fails : d.fate ≡ Fails → (queue' : List ℕ) → queue' ≡ set_word v 0 queue → Out ends rests queue' last W
+  carried_fails : d ≡ Fails → (queue' : List ℕ) → queue' ≡ set_word v 0 queue → Out ends rests queue' last W
   unfolding requeue carry_out
   carried_fails x queue' pq =
       outcome ends rests queue' last W
       (λ j s t q g i e st dec. (
         requeue v none s,
-        by_fate d Fails fails x refl j s v q dec,
+        as_decided d Fails x j s v q dec,
         requeued j s t g i none queue' (pq ∙ unqueued j s g (requeue v none s) v i.known t.queue queue st.moves.queue_is refl) st,
         same_records j s g i none,
       ))
@@ -207,76 +184,62 @@ module _ (d : Decided) (v : ℕ) (B : JobBuffers) (ends rests queue last W : Lis
   took_there ends' rests' queue' last' W' j t x y e o = rw e o
 
   -- a clear register is taken
-  carried_takes :
-      d.fate ≡ Takes
+  pub carried_takes :
+      (c : CandidateReg)
+      → d ≡ Takes c
       → (ends' rests' queue' last' W' : List ℕ)
-      → Settled v d.to d.flag B ends rests queue last W ends' rests' queue' last' W'
+      → Settled v c false B ends rests queue last W ends' rests' queue' last' W'
       → Out ends' rests' queue' last' W'
   unfolding evict_all foldl
-  carried_takes x ends' rests' queue' last' W' se =
+  carried_takes c x ends' rests' queue' last' W' se =
       record {
         reached =
             λ j s t q reach e k st is queued dec.
             let g = good_reached j s reach in
             let i = queued_idle j s g v q queued in
-            let a = takes_good j s g v i q d.to d.flag [] (sym dec ∙ ap (λ (z : Fate). decision_by z d) x) in
-            took_there ends' rests' queue' last' W' j t (give j v d.to d.flag s) (state_of (dequeue j s v q))
-            (by_fate d Takes (takes d.to d.flag []) x refl j s v q dec ∙ took j s v d.to d.flag [])
+            let a = takes_good j s g v i q c false [] (sym dec ∙ ap decision_of x) in
+            took_there ends' rests' queue' last' W' j t (give j v c false s) (state_of (dequeue j s v q))
+            (as_decided d (Takes c) x j s v q dec ∙ took j s v c false [])
             (se.reached j s t reach k st is i.known (idle_unassigned j s v i) a.candidate.names a.clear a.candidate.plain);
       }
 
   -- a register is taken from its holders
-  carried_evicts :
-      d.fate ≡ Evicts
+  pub carried_evicts :
+      (c : CandidateReg) (f : Bool) (gone : List Bool)
+      → d ≡ Evicts c f gone
       → (ends₁ rests₁ queue₁ W₁ : List ℕ)
-      → EvictedAll d.evicted B ends rests queue W ends₁ rests₁ queue₁ W₁
+      → EvictedAll gone B ends rests queue W ends₁ rests₁ queue₁ W₁
       → (ends' rests' queue' last' W' : List ℕ)
-      → Settled v d.to d.flag B ends₁ rests₁ queue₁ last W₁ ends' rests' queue' last' W'
+      → Settled v c f B ends₁ rests₁ queue₁ last W₁ ends' rests' queue' last' W'
       → Out ends' rests' queue' last' W'
-  carried_evicts x ends₁ rests₁ queue₁ W₁ ea ends' rests' queue' last' W' se =
+  carried_evicts c f gone x ends₁ rests₁ queue₁ W₁ ea ends' rests' queue' last' W' se =
       record {
         reached =
             λ j s t q reach e k st is queued dec.
             let g = good_reached j s reach in
             let i = queued_idle j s g v q queued in
-            let vs = members d.evicted in
-            let a = takes_good j s g v i q d.to d.flag vs (sym dec ∙ ap (λ (z : Fate). decision_by z d) x) in
+            let vs = members gone in
+            let a = takes_good j s g v i q c f vs (sym dec ∙ ap decision_of x) in
             let y = evict_all j vs s in
             let m = ea.reached j s t reach e st.moves is in
             let lasts : last ≡ last_words y ++ t.last = st.last_is ∙ ap (λ (l : List ℕ). l ++ t.last) (sym (evict_all_keeps last_words j (lose_last j) vs s)) in
-            took_there ends' rests' queue' last' W' j t (give j v d.to d.flag y) (state_of (dequeue j s v q))
-            (by_fate d Evicts (takes d.to d.flag vs) x refl j s v q dec ∙ took j s v d.to d.flag vs)
+            took_there ends' rests' queue' last' W' j t (give j v c f y) (state_of (dequeue j s v q))
+            (as_decided d (Evicts c f gone) x j s v q dec ∙ took j s v c f vs)
             (se.reached j y t (reached_evict_all j vs s reach) k (record { moves = m.0; last_is = lasts }) m.1 a.idle.known (idle_unassigned j y v a.idle) a.candidate.names a.clear a.candidate.plain);
       }
 
-  -- a register is taken, whoever is in the way evicted before
-  pub carried_settled :
-      (t e : Bool)
-      → t ≡ is_taking d.fate
-      → t ≡ true
-      → e ≡ is_evicting d.fate
-      → (ends₁ rests₁ queue₁ W₁ ends' rests' queue' last' W' : List ℕ)
-      → Settled v d.to d.flag B ends₁ rests₁ queue₁ last W₁ ends' rests' queue' last' W'
-      → Cleared e d.evicted B ends rests queue W ends₁ rests₁ queue₁ W₁
-      → Out ends' rests' queue' last' W'
-  carried_settled t e is-t on is-e ends₁ rests₁ queue₁ W₁ ends' rests' queue' last' W' se cl = go d.fate refl (subst T (sym on ∙ is-t) tt) is-e
-    where
-      go : (x : Fate) → d.fate ≡ x → T (is_taking x) → e ≡ is_evicting x → Out ends' rests' queue' last' W'
-      go Leaves f y k = absurd y
-      go Takes f y k =
-          let q = cl.stayed k in
-          carried_takes f ends' rests' queue' last' W' (rw (← q.0, ← q.1, ← q.2, ← q.3) se)
-      go Evicts f y k = carried_evicts f ends₁ rests₁ queue₁ W₁ (cl.evicted k) ends' rests' queue' last' W' se
-      go Splits f y k = absurd y
-      go Fails f y k = absurd y
-
   -- no register is taken
-  pub carried_passed : (t : Bool) → t ≡ is_taking d.fate → t ≡ false → (queue' W' : List ℕ) → PassedBy d.fate v (key_in B v Split) queue W queue' W' → Out ends rests queue' last W'
-  carried_passed t is-t off queue' W' pb = go d.fate refl (subst (λ (b : Bool). T (not b)) (sym off ∙ is-t) tt) pb.parts
+  pub carried_passed :
+      ((c : CandidateReg) → d ≡ Takes c → ⊥)
+      → ((c : CandidateReg) (f : Bool) (gone : List Bool) → d ≡ Evicts c f gone → ⊥)
+      → (queue' W' : List ℕ)
+      → PassedBy d v (key_in B v Split) queue W queue' W'
+      → Out ends rests queue' last W'
+  carried_passed not-takes not-evicts queue' W' pb = go d refl pb.parts
     where
-      go : (x : Fate) → d.fate ≡ x → T (not (is_taking x)) → PassedParts x v (key_in B v Split) queue W queue' W' → Out ends rests queue' last W'
-      go Leaves f y p = carried_leaves f queue' p.0 W' p.1
-      go Takes f y p = absurd y
-      go Evicts f y p = absurd y
-      go Splits f y p = rw p.1 (carried_splits f queue' p.0)
-      go Fails f y p = rw p.1 (carried_fails f queue' p.0)
+      go : (x : Decided) → d ≡ x → PassedParts x v (key_in B v Split) queue W queue' W' → Out ends rests queue' last W'
+      go Leaves f p = carried_leaves f queue' p.0 W' p.1
+      go (Takes c) f p = absurd (not-takes c f)
+      go (Evicts c b gone) f p = absurd (not-evicts c b gone f)
+      go Splits f p = rw p.1 (carried_splits f queue' p.0)
+      go Fails f p = rw p.1 (carried_fails f queue' p.0)

@@ -7,7 +7,7 @@ use mathlib.Core.Option.{Option, none, some}
 use mathlib.Core.Bool.{Bool, true, false, not, ◌&&◌, cond}
 use lib.Dec.{T, eqb}
 use lib.Ieee.{Float, nan, inf, fin, of_bits, lt, eq}
-use lib.ListN.{length, get_or, replicate, length-map, get_or-append, get_or-map}
+use lib.ListN.{length, get_or, length-map, get_or-append, get_or-map}
 use borrow.Author.Tests.{ne_eqb}
 use Rattle.reg_matrix.proofs.Members.{get_d_in}
 use Rattle.reg_matrix.specs.Lists.{first, count, padded}
@@ -29,17 +29,17 @@ use Rattle.allocator.specs.Reached.{Reached}
 use Rattle.allocator.proofs.Agrees.{queued_at}
 use Rattle.allocator.proofs.Good.{Good, Idle, good_reached, queued_idle}
 use Rattle.order.specs.OrderWalk.{last_of}
-use Rattle.order.specs.declared.Last.TheVariants.{Reg as LastReg, NoReg}
-use Rattle.stage.specs.AllocateWalk.{available_in, prefer_in}
+use Rattle.stage.specs.AllocateWalk.{available_in, cost_so_far, prefer_in}
 use Rattle.stage.specs.declared.allocate.Best.{Best}
 use Rattle.stage.specs.declared.allocate.Available.{Available}
 use Rattle.stage.specs.declared.allocate.Available.TheVariants.{Clear, NoneClear, NoCandidates}
 use Rattle.order.proofs.OrderLaws.{all_hints_lem, hinted_is, offers_all}
 use Rattle.stage.proofs.Reached.{LaidOut}
 use Rattle.stage.proofs.ReachedSearch.{own_hinted, hinted_small, order_small, SearchLent, spill_read, record_read, by_available, decide_found, BestIs, eviction_found, PreferredIs, preferred_found}
-use Rattle.decisions.specs.declared.Fate.TheVariants.{Takes, Splits, Fails}
+use Rattle.decisions.specs.declared.Decided.TheVariants.{Takes, Splits, Fails}
+use Rattle.std.proofs.Common.{Option as Maybe, Some, None}
 use Rattle.job_parts.specs.Shares.{class_in}
-use Rattle.decisions.specs.Deciding.{members, decision_of, decided, without, last_in, preferred_or, clear_in, evicted_or, none_clear_in, found_in, in_order, lent_to, hinted_in, decided_in}
+use Rattle.decisions.specs.Deciding.{members, decision_of, last_in, preferred_or, clear_in, evicted_or, none_clear_in, found_in, in_order, lent_to, hinted_in, decided_in}
 use Rattle.records.specs.Fields.{flag_in, record_weight}
 use Rattle.moves.specs.Standing.{JobReads, TableStands}
 use Rattle.record_words.specs.Words.{record_in, held_in, WordsOf}
@@ -49,7 +49,7 @@ use Rattle.moves.proofs.Shares.{froms_share, tos_share, values_share, hint_regs_
 -- ---- words and weights
 
 -- the word of a register last given, read back
-last_back : (o : Option ℕ) → last_of (cond (eqb (last_word o) 0) NoReg (LastReg (last_word o - 1))) ≡ o
+last_back : (o : Option ℕ) → last_of (cond (eqb (last_word o) 0) None (Some (last_word o - 1))) ≡ o
 last_back none = refl
 last_back (some r) =
     let e : eqb (r + 1) 0 ≡ false = ne_eqb (r + 1) 0 (λ q. omega arith) in
@@ -147,22 +147,24 @@ module _ (j : Job) (s : State) (g : Good j s) (B : JobBuffers) (R : JobReads j B
     lent_now = laid_out et rt ends rests S
 
     -- a clear candidate, or a preferred one
-    prefers_is : (c : CandidateReg) (best : Best) (o : Option CandidateReg)
+    prefers_is : (c : CandidateReg) (best : Maybe Best) (o : Option CandidateReg)
         → PreferredIs j s g v b (lent_to B ends rests v) lent_now B.regs (held_of s) B.spill_weights search_lent best o → decision_of (preferred_or c best) ≡ or_preferred j s v c o
     unfolding members
     prefers_is c best none e = rw e
     prefers_is c best (some d) f = rw (f.found, f.to, f.evicts)
 
     -- an eviction, or none
-    evicts_is : (best : Best) (o : Option Eviction)
+    evicts_is : (best : Maybe Best) (o : Option Eviction)
         → BestIs j s g v b (lent_to B ends rests v) lent_now B.regs (held_of s) B.spill_weights search_lent best o → decision_of (evicted_or (spill_weight j v) best) ≡ by_eviction j s v o
     unfolding members
     evicts_is best none e = rw (e, plain_infinite (spill_weight j v) (g.premises.plain_spill v b)) (go (is_infinite (spill_weight j v)))
       where
-        go : (t : Bool) → decision_of (cond t (without Fails) (without Splits)) ≡ cond t fails splits
+        go : (t : Bool) → decision_of (cond t Fails Splits) ≡ cond t fails splits
         go true = refl
         go false = refl
-    evicts_is best (some e) f = rw (f.0.found, f.0.to, f.0.evicts, f.1)
+    evicts_is best (some e) f =
+        let k : f.0.it.cost ≡ e.cost = sym (ap cost_so_far f.0.found) ∙ f.1 in
+        rw (f.0.found, f.0.to, f.0.evicts, k)
 
     found_is : (q : Stage) (a : Available)
         → decision_of (found_in (lent_to B ends rests v) B.regs (held_of s) B.spill_weights hinted (flag s v) (spill_weight j v) (order j v hinted) q a)
@@ -172,7 +174,7 @@ module _ (j : Job) (s : State) (g : Good j s) (B : JobBuffers) (R : JobReads j B
     found_is q (Clear c) = go (lt c.preference_weight (highest_preference hinted) && not (flag s v))
       where
         go : (t : Bool)
-            → decision_of (cond t (preferred_or c (prefer_in (lent_to B ends rests v) B.regs (held_of s) B.spill_weights c hinted)) (decided Takes c false (replicate 512 false)))
+            → decision_of (cond t (preferred_or c (prefer_in (lent_to B ends rests v) B.regs (held_of s) B.spill_weights c hinted)) (Takes c))
             ≡ or_preferred j s v c (cond t (first (preferred j s v c) hinted) none)
         go true =
             prefers_is c _ (first (preferred j s v c) hinted)

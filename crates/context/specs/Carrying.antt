@@ -1,6 +1,6 @@
 -- What carrying a decision out does to what is lent, on a state that calls reach: afterwards the state that the rules give stands there. On any other
 -- state these say nothing. Assumes nothing.
-use Rattle.std.specs.Prelude.{ℕ, ◌<◌, ◌≡◌, List, [], Bool, true, false, ◌||◌, T, length, get_or}
+use Rattle.std.specs.Prelude.{ℕ, ◌<◌, ◌≡◌, List, [], Bool, ◌||◌, T, length, get_or}
 use Rattle.std.proofs.Math.Option.{some, none}
 use Rattle.job.specs.Model.{Job, Plain}
 use Rattle.job.specs.Layout.{JobBuffers}
@@ -15,8 +15,6 @@ use Rattle.allocator.specs.Calls.{named}
 use Rattle.allocator.specs.Reached.{Reached}
 use Rattle.records.specs.Fields.{flag_in}
 use Rattle.record_words.specs.Words.{WordsOf}
-use Rattle.decisions.specs.declared.Fate.{Fate}
-use Rattle.decisions.specs.declared.Fate.TheVariants.{Leaves, Takes, Evicts, Splits, Fails}
 use Rattle.decisions.specs.declared.Decided.{Decided}
 use Rattle.decisions.specs.Deciding.{members, decision_of}
 use Rattle.moves.specs.Standing.{Moves, Stands}
@@ -50,22 +48,6 @@ pub record Settled (v : ℕ) (c : CandidateReg) (f : Bool) (B : JobBuffers) (end
       → check_of j s v c.reg ≡ []
       → Plain c.preference_weight
       → Stands j (give j v c f s) t ends' rests' queue' last' × WordsOf (records (give j v c f s)) words'
-
--- a register is taken from its holders
-abbrev pub is_evicting : Fate → Bool
-is_evicting Leaves = false
-is_evicting Takes = false
-is_evicting Evicts = true
-is_evicting Splits = false
-is_evicting Fails = false
-
--- a register is taken
-abbrev pub is_taking : Fate → Bool
-is_taking Leaves = false
-is_taking Takes = true
-is_taking Evicts = true
-is_taking Splits = false
-is_taking Fails = false
 
 -- what the dequeue of v decides is carried out
 pub record CarriedOut (d : Decided) (v : ℕ) (B : JobBuffers) (ends rests queue last words ends' rests' queue' last' words' : List ℕ) : Type 0 where

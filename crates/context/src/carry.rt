@@ -1,10 +1,10 @@
 // Carrying out what a dequeue decided (`Context::allocate`, `assign`, `evict`): the table, the queue, the last registers and the records.
 ghost use Rattle.std.specs.Prelude.{◌≡◌, []};
 ghost use Rattle.job.specs.Layout.{slices, lists_in};
-ghost use Rattle.context.specs.Carrying.{EvictedAll, given_record, Settled, is_evicting, is_taking, CarriedOut};
+ghost use Rattle.context.specs.Carrying.{EvictedAll, given_record, Settled, CarriedOut};
 
 use allocator::{Assignment, CandidateReg};
-use decisions::{Decided, Fate};
+use decisions::Decided;
 use lent::{at, put};
 use moves::{pass_by, take, take_back};
 use record_words::{record_of, word_of};
@@ -12,7 +12,7 @@ use records::assignment::{flag_of, is_assigned, reg_of};
 
 // All of a set lose their registers, in ascending order, and their records say so.
 fn evict_all(
-    gone: [bool; 512],
+    gone: &[bool; 512],
     j64: &[u64],
     j32: &[u32],
     j16: &[u16],
@@ -21,12 +21,9 @@ fn evict_all(
     queue: &mut [u64],
     words: &mut [u64],
 )
-    ensures { EvictedAll gone (lists_in (slices j64.now j32.now j16.now [] [])) ends.old rests.old queue.old words.old ends.new rests.new queue.new words.new }
+    ensures { EvictedAll gone.now (lists_in (slices j64.now j32.now j16.now [] [])) ends.old rests.old queue.old words.old ends.new rests.new queue.new words.new }
 {
-    let mut i: usize = 0;
-    while i < 512 {
-        let v = i;
-        i += 1;
+    for v in 0..512 {
         if gone[v] {
             let a = record_of(at(words, v));
             if is_assigned(a) {
@@ -44,15 +41,8 @@ fn evict_all(
 fn given(flag: bool, before: Assignment, to: CandidateReg) -> Assignment
     ensures { result ≡ given_record flag before to }
 {
-    if flag {
-        return Assignment::Assigned {
-            evicted_for_preference: true,
-            reg: to.reg,
-            preference_weight: to.preference_weight,
-        };
-    }
     Assignment::Assigned {
-        evicted_for_preference: flag_of(before),
+        evicted_for_preference: flag || flag_of(before),
         reg: to.reg,
         preference_weight: to.preference_weight,
     }
@@ -80,35 +70,9 @@ fn settle(
     take(v, to.reg, j64, j32, j16, ends, rests, queue, last);
 }
 
-// Whether a number takes a register after evicting its holders.
-fn is_evicting(fate: Fate) -> bool
-    ensures { result ≡ is_evicting fate }
-{
-    match fate {
-        Fate::Leaves => false,
-        Fate::Takes => false,
-        Fate::Evicts => true,
-        Fate::Splits => false,
-        Fate::Fails => false,
-    }
-}
-
-// Whether a number takes a register.
-fn is_taking(fate: Fate) -> bool
-    ensures { result ≡ is_taking fate }
-{
-    match fate {
-        Fate::Leaves => false,
-        Fate::Takes => true,
-        Fate::Evicts => true,
-        Fate::Splits => false,
-        Fate::Fails => false,
-    }
-}
-
 // What the dequeue of v decided is carried out, where the records stand in the words.
 pub fn carry_out(
-    d: Decided,
+    decided: &Decided,
     v: u16,
     j64: &[u64],
     j32: &[u32],
@@ -119,19 +83,18 @@ pub fn carry_out(
     last: &mut [u8],
     words: &mut [u64],
 )
-    ensures { CarriedOut d v (lists_in (slices j64.now j32.now j16.now [] [])) ends.old rests.old queue.old last.old words.old ends.new rests.new queue.new last.new words.new }
+    ensures { CarriedOut decided.now v (lists_in (slices j64.now j32.now j16.now [] [])) ends.old rests.old queue.old last.old words.old ends.new rests.new queue.new last.new words.new }
 {
-    let fate = d.fate;
-    if is_taking(fate) {
-        if is_evicting(fate) {
-            let gone = d.evicted;
-            evict_all(gone, j64, j32, j16, ends, rests, queue, words);
+    match decided {
+        Decided::Takes(to) => settle(
+            v, *to, false, j64, j32, j16, ends, rests, queue, last, words,
+        ),
+        Decided::Evicts { to, flag, holders } => {
+            evict_all(holders, j64, j32, j16, ends, rests, queue, words);
+            settle(
+                v, *to, *flag, j64, j32, j16, ends, rests, queue, last, words,
+            );
         }
-        let to = d.to;
-        settle(
-            v, to, d.flag, j64, j32, j16, ends, rests, queue, last, words,
-        );
-    } else {
-        pass_by(fate, v, j32, j16, queue, words);
+        _ => pass_by(decided, v, j32, j16, queue, words),
     }
 }

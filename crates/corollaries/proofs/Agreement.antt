@@ -11,9 +11,9 @@ use lib.Dec.{T}
 use Rattle.reg_matrix.specs.Lists.{is_some}
 use Rattle.reg_matrix.specs.Table.{units_of}
 use Rattle.reg_matrix.specs.Assign.{fixed_index}
+use Rattle.std.specs.Prelude.{Option as Maybe}
 use Rattle.reg_matrix.specs.declared.ValueSegment.{ValueSegment}
 use Rattle.reg_matrix.specs.declared.Entry.{Entry}
-use Rattle.reg_matrix.specs.declared.FixedIndex.{FixedIndex}
 use Rattle.reg_matrix.specs.declared.Reservation.TheVariants.{Held}
 use Rattle.reg_matrix.proofs.Members.{◌∈◌}
 use Rattle.reg_matrix.proofs.Cells.{entry_for, Laid, reserved, cell}
@@ -65,7 +65,7 @@ module _ (j : Job) (s : State) (h : Holding) (a : Agrees j s h) where
   -- the entry of a cell, and its index
   table_has :
       (v u : ℕ) → HasUnit j h v u → (x : ValueSegment) → x ∈ segments_of j v
-      → (i : FixedIndex) × (record { unit = u; from = x.from; to = x.to; reservation = Held v i } ∈ s.table)
+      → (i : Maybe ℕ) × (record { unit = u; from = x.from; to = x.to; reservation = Held v i } ∈ s.table)
   unfolding entry_for
   table_has v u k x m =
       let c = cell_of v u x in

@@ -1,5 +1,5 @@
 -- A dequeue's decision in the shape of the code, over what is lent. Laws in proofs/ and in context/proofs tie it to Dequeue.antt. Assumes nothing.
-use Rattle.std.specs.Prelude.{ℕ, ◌-◌, List, [], Bool, true, false, not, ◌&&◌, cond, eqb, Float, get_or, replicate}
+use Rattle.std.specs.Prelude.{ℕ, ◌-◌, List, [], Bool, true, false, not, ◌&&◌, Option as Maybe, Some, None, cond, eqb, Float, get_or}
 use Rattle.std.specs.Float.Ieee.{lt, eq}
 use Rattle.reg_matrix.specs.Lists.{filter, count}
 use Rattle.matrix.specs.Walk.{Lent, lent}
@@ -9,19 +9,16 @@ use Rattle.job_parts.specs.Shares.{share_of, froms_in, tos_in, values_in, class_
 use Rattle.allocator.specs.declared.CandidateReg.{CandidateReg}
 use Rattle.allocator.specs.declared.Stage.{Stage}
 use Rattle.allocator.specs.declared.Stage.TheVariants.{Evict, Split}
-use Rattle.allocator.specs.Order.{candidate, highest_preference}
+use Rattle.allocator.specs.Order.{highest_preference}
 use Rattle.allocator.specs.Evict.{infinite}
 use Rattle.allocator.specs.Dequeue.{Decision, leaves, takes, splits, fails}
 use Rattle.order.specs.OrderWalk.{hints_of, hinted_of, offers_from, last_of}
-use Rattle.order.specs.declared.Last.{Last}
-use Rattle.order.specs.declared.Last.TheVariants.{Reg as LastReg, NoReg}
-use Rattle.stage.specs.AllocateWalk.{available_in, evict_in, prefer_in, no_best}
+use Rattle.stage.specs.AllocateWalk.{available_in, evict_in, prefer_in}
 use Rattle.stage.specs.declared.allocate.Best.{Best}
 use Rattle.stage.specs.declared.allocate.Available.{Available}
 use Rattle.stage.specs.declared.allocate.Available.TheVariants.{Clear, NoneClear, NoCandidates}
-pub use Rattle.decisions.specs.declared.Fate.{Fate}
-pub use Rattle.decisions.specs.declared.Fate.TheVariants.{Leaves, Takes, Evicts, Splits, Fails}
 pub use Rattle.decisions.specs.declared.Decided.{Decided}
+pub use Rattle.decisions.specs.declared.Decided.TheVariants.{Leaves, Takes, Evicts, Splits, Fails}
 
 -- ---- the decision that the code's answer stands for
 
@@ -29,47 +26,39 @@ pub use Rattle.decisions.specs.declared.Decided.{Decided}
 unfoldable pub members : List Bool → List ℕ
 members set = filter (λ v. get_or set v false) (count 0 512)
 
-abbrev pub decision_by : Fate → Decided → Decision
-decision_by Leaves d = leaves
-decision_by Takes d = takes d.to d.flag []
-decision_by Evicts d = takes d.to d.flag (members d.evicted)
-decision_by Splits d = splits
-decision_by Fails d = fails
-
 abbrev pub decision_of : Decided → Decision
-decision_of d = decision_by d.fate d
+decision_of Leaves = leaves
+decision_of (Takes c) = takes c false []
+decision_of (Evicts c f vs) = takes c f (members vs)
+decision_of Splits = splits
+decision_of Fails = fails
 
 -- ---- in the shape of the code
 
-abbrev pub decided : Fate → CandidateReg → Bool → List Bool → Decided
-decided x c f vs = record { fate = x; to = c; flag = f; evicted = vs }
-
--- no register is taken
-abbrev pub without : Fate → Decided
-without x = decided x (candidate 0 zero_weight) false (replicate 512 false)
-
 -- the register last given to the set of v, by its word
-unfoldable pub last_in : List ℕ → List ℕ → ℕ → Last
-last_in last sets v = cond (eqb (get_or last (get_or sets v 0) 0) 0) NoReg (LastReg (get_or last (get_or sets v 0) 0 - 1))
+unfoldable pub last_in : List ℕ → List ℕ → ℕ → Maybe ℕ
+last_in last sets v = cond (eqb (get_or last (get_or sets v 0) 0) 0) None (Some (get_or last (get_or sets v 0) 0 - 1))
 
-abbrev pub preferred_or : CandidateReg → Best → Decided
-preferred_or c b = cond b.found (decided Evicts b.to true b.holders) (decided Takes c false (replicate 512 false))
+abbrev pub preferred_or : CandidateReg → Maybe Best → Decided
+preferred_or c None = Takes c
+preferred_or c (Some b) = Evicts b.to true b.holders
 
 -- the clear candidate c, unless another is preferred
 unfoldable pub clear_in : Lent → List ℕ → List Float → List Float → List CandidateReg → Bool → CandidateReg → Decided
 clear_in W maps ws ss hs flag c =
-    cond (lt c.preference_weight (highest_preference hs) && not flag) (preferred_or c (prefer_in W maps ws ss c hs)) (decided Takes c false (replicate 512 false))
+    cond (lt c.preference_weight (highest_preference hs) && not flag) (preferred_or c (prefer_in W maps ws ss c hs)) (Takes c)
 
-abbrev pub evicted_or : Float → Best → Decided
-evicted_or own b = cond b.found (decided Evicts b.to (not (lt b.cost.spill_weight own)) b.holders) (cond (eq own infinite) (without Fails) (without Splits))
+abbrev pub evicted_or : Float → Maybe Best → Decided
+evicted_or own None = cond (eq own infinite) Fails Splits
+evicted_or own (Some b) = Evicts b.to (not (lt b.cost.spill_weight own)) b.holders
 
 unfoldable pub none_clear_in : Lent → List ℕ → List Float → List Float → Bool → Float → List CandidateReg → Stage → Decided
-none_clear_in W maps ws ss flag own cs Evict = evicted_or own (evict_in W maps ws ss flag own no_best cs)
-none_clear_in W maps ws ss flag own cs Split = without Leaves
+none_clear_in W maps ws ss flag own cs Evict = evicted_or own (evict_in W maps ws ss flag own None cs)
+none_clear_in W maps ws ss flag own cs Split = Leaves
 
 -- by what was found of the candidates
 unfoldable pub found_in : Lent → List ℕ → List Float → List Float → List CandidateReg → Bool → Float → List CandidateReg → Stage → Available → Decided
-found_in W maps ws ss hs flag own cs q NoCandidates = without Leaves
+found_in W maps ws ss hs flag own cs q NoCandidates = Leaves
 found_in W maps ws ss hs flag own cs q (Clear c) = clear_in W maps ws ss hs flag c
 found_in W maps ws ss hs flag own cs q NoneClear = none_clear_in W maps ws ss flag own cs q
 

@@ -1,107 +1,59 @@
 // What a dequeue decides (`Context::allocate`). It reads, and changes nothing.
 #![tactic(auto)]
 
-ghost use Rattle.std.specs.Prelude.{◌≡◌, false, not, ◌&&◌, List, [], ℕ, ◌+◌, ◌≤◌, length, get_or, replicate};
-ghost use Rattle.std.specs.Float.Ieee.{lt, eq};
+ghost use Rattle.std.specs.Prelude.{◌≡◌, None, false, not, ◌&&◌, List, [], ℕ, ◌+◌, ◌≤◌, length, get_or};
+ghost use Rattle.std.specs.Float.Ieee.{lt};
 ghost use Rattle.job.specs.Layout.{slices, lists_in};
 ghost use Rattle.allocator.specs.declared.CandidateReg.{CandidateReg};
 ghost use Rattle.allocator.specs.Order.{highest_preference};
-ghost use Rattle.allocator.specs.Evict.{infinite};
 ghost use Rattle.records.specs.Fields.{flag_in};
 ghost use Rattle.record_words.specs.Words.{record_in, held_in};
 ghost use Rattle.order.specs.OrderWalk.{Computed, offers_from};
-ghost use Rattle.stage.specs.AllocateWalk.{available_in, evict_in, no_best};
+ghost use Rattle.stage.specs.AllocateWalk.{available_in, evict_in};
 ghost use Rattle.job_parts.specs.Shares.{class_in};
-ghost use Rattle.decisions.specs.Deciding.{Takes, Evicts, decided, without, last_in, clear_in, none_clear_in, in_order, lent_to, hinted_in, decided_in};
+ghost use Rattle.decisions.specs.Deciding.{Evicts, last_in, clear_in, none_clear_in, in_order, lent_to, hinted_in, decided_in};
 
 use allocator::{CandidateReg, Stage};
 use job::{HINT_REGS, HINT_STARTS, HINT_WEIGHTS, SETS, USES};
-use job_parts::{class_of, froms_of, of_float, of8, tos_of, values_of};
-use lent::{at, at_float, at8, at16, from, from_float, from8, from16};
-use order::{AllocationOrder, Last, compute, highest_preference};
+use job_parts::{class_of, froms_of, part_of, tos_of, values_of};
+use lent::{at, from};
+use order::{AllocationOrder, compute, highest_preference};
 use record_words::record_of;
 use records::assignment::flag_of;
 use stage::allocate::{
     Available, Best, find_available_reg, try_evict, try_evict_for_preferred_reg,
 };
 
-// What becomes of a number that is dequeued: it is left over; it takes a register that is clear; it takes one after evicting its holders; it goes back
-// to the queue at stage Split; or the run ends, as too many are live.
+// What a dequeue decides of a number: it is left over; it takes a register that is clear; it takes one after evicting its holders, and its flag turns on
+// or stays; it goes back to the queue at stage Split; or the run ends, as too many are live.
 #[derive(Clone, Copy)]
-pub enum Fate {
+pub enum Decided {
     Leaves,
-    Takes,
-    Evicts,
+    Takes(CandidateReg),
+    Evicts {
+        to: CandidateReg,
+        flag: bool,
+        holders: [bool; 512],
+    },
     Splits,
     Fails,
 }
 
-// A dequeue's decision: where a register is taken, which one with which weight, whether the flag turns on, and who is evicted.
-#[derive(Clone, Copy)]
-pub struct Decided {
-    pub fate: Fate,
-    pub to: CandidateReg,
-    pub flag: bool,
-    pub evicted: [bool; 512],
-}
-
-// No register is taken.
-fn without_reg(fate: Fate) -> Decided
-    ensures { result ≡ without fate }
-{
-    Decided {
-        fate,
-        to: CandidateReg {
-            reg: 0,
-            preference_weight: 0.0,
-        },
-        flag: false,
-        evicted: [false; 512],
-    }
-}
-
 // The register last given to the set of v.
-fn last_given(last: &[u8], sets: &[u16], v: u16) -> Last
+#[tactic(auto, unfolding(crate::specs::Deciding::last_in))]
+fn last_given(last: &[u8], sets: &[u16], v: u16) -> Option<u8>
     ensures { result ≡ last_in last.now sets.now v }
 {
-    let word = at8(last, at16(sets, v as usize) as usize);
-    if word == 0 {
-        Last::NoReg
-    } else {
-        Last::Reg(word - 1)
-    }
-}
-
-fn is_infinite(weight: f32) -> bool
-    ensures { result ≡ eq weight infinite }
-{
-    weight == f32::from_bits(0x7F80_0000)
-}
-
-// Nothing is evicted: the candidate is clear.
-fn takes(c: CandidateReg) -> Decided
-    ensures { result ≡ decided Takes c false (replicate 512 false) }
-{
-    Decided {
-        fate: Fate::Takes,
-        to: c,
-        flag: false,
-        evicted: [false; 512],
-    }
+    let word = at(last, at(sets, v as usize) as usize);
+    if word == 0 { None } else { Some(word - 1) }
 }
 
 // The best candidate is taken from its holders, and the flag turns on or not.
 fn evicts(best: Best, flag: bool) -> Decided
-    ensures { result ≡ decided Evicts best.to flag best.holders }
+    ensures { result ≡ Evicts best.to flag best.holders }
 {
-    let to = best.to;
-    let evicted = best.holders;
-    Decided {
-        fate: Fate::Evicts,
-        to,
-        flag,
-        evicted,
-    }
+    let Best { to, holders, .. } = best;
+    Decided::Evicts { to, flag, holders }
 }
 
 // The hinted candidates of v, into the slices lent for them, 65 long each.
@@ -116,11 +68,11 @@ fn order_of(
 ) -> AllocationOrder
     ensures { 65 ≤ length regs.old → 65 ≤ length weights.old → Computed result regs.new weights.new (hinted_in (lists_in (slices [] [] j16.now j8.now jf.now)) last.now v) }
 {
-    let starts = from16(j16, HINT_STARTS);
+    let starts = from(j16, HINT_STARTS);
     compute(
-        of8(starts, v, from8(j8, HINT_REGS)),
-        of_float(starts, v, from_float(jf, HINT_WEIGHTS)),
-        last_given(last, from16(j16, SETS), v),
+        part_of(starts, v, from(j8, HINT_REGS)),
+        part_of(starts, v, from(jf, HINT_WEIGHTS)),
+        last_given(last, from(j16, SETS), v),
         regs,
         weights,
     )
@@ -152,9 +104,8 @@ impl Dequeued {
         ensures { (hs : List CandidateReg) → Computed self.order regs.now weights.now hs → length hs + length (class_in (lists_in (slices [] [] j16.now j8.now [])) self.v) ≤ 129 → result ≡ available_in (lent_to (lists_in (slices j64.now j32.now j16.now [] [])) ends.now rests.now self.v) j64.now false (offers_from hs (class_in (lists_in (slices [] [] j16.now j8.now [])) self.v) 0) }
     {
         let v = self.v;
-        let order = self.order;
         find_available_reg(
-            order,
+            self.order,
             regs,
             weights,
             class_of(v, j16, j8),
@@ -172,11 +123,7 @@ impl Dequeued {
     fn wants_preferred(self, c: CandidateReg, weights: &[f32]) -> bool
         ensures { (regs : List ℕ) (hs : List CandidateReg) → Computed self.order regs weights.now hs → result ≡ (lt c.preference_weight (highest_preference hs) && not self.flag) }
     {
-        if self.flag {
-            return false;
-        }
-        let order = self.order;
-        c.preference_weight < highest_preference(order, weights)
+        !self.flag && c.preference_weight < highest_preference(self.order, weights)
     }
 
     // The clear candidate c is taken, unless another is preferred and its holders may be evicted.
@@ -196,13 +143,12 @@ impl Dequeued {
         ensures { (hs : List CandidateReg) → Computed self.order regs.now weights.now hs → length hs ≤ 65 → result ≡ clear_in (lent_to (lists_in (slices j64.now j32.now j16.now [] [])) ends.now rests.now self.v) j64.now (held_in words.now) jf.now hs self.flag c }
     {
         if !self.wants_preferred(c, weights) {
-            return takes(c);
+            return Decided::Takes(c);
         }
         let v = self.v;
-        let order = self.order;
-        let best = try_evict_for_preferred_reg(
+        match try_evict_for_preferred_reg(
             c,
-            order,
+            self.order,
             regs,
             weights,
             j64,
@@ -214,11 +160,10 @@ impl Dequeued {
             froms_of(v, j32, j16),
             tos_of(v, j32, j16),
             values_of(v, j16),
-        );
-        if best.found {
-            return evicts(best, true);
+        ) {
+            Some(best) => evicts(best, true),
+            None => Decided::Takes(c),
         }
-        takes(c)
     }
 
     // The candidate whose holders cost least to evict, if there is one.
@@ -234,13 +179,12 @@ impl Dequeued {
         jf: &[f32],
         ends: &[u64],
         rests: &[u64],
-    ) -> Best
-        ensures { (hs : List CandidateReg) → Computed self.order regs.now weights.now hs → length hs + length (class_in (lists_in (slices [] [] j16.now j8.now [])) self.v) ≤ 129 → result ≡ evict_in (lent_to (lists_in (slices j64.now j32.now j16.now [] [])) ends.now rests.now self.v) j64.now (held_in words.now) jf.now self.flag self.spill_weight no_best (offers_from hs (class_in (lists_in (slices [] [] j16.now j8.now [])) self.v) 0) }
+    ) -> Option<Best>
+        ensures { (hs : List CandidateReg) → Computed self.order regs.now weights.now hs → length hs + length (class_in (lists_in (slices [] [] j16.now j8.now [])) self.v) ≤ 129 → result ≡ evict_in (lent_to (lists_in (slices j64.now j32.now j16.now [] [])) ends.now rests.now self.v) j64.now (held_in words.now) jf.now self.flag self.spill_weight None (offers_from hs (class_in (lists_in (slices [] [] j16.now j8.now [])) self.v) 0) }
     {
         let v = self.v;
-        let order = self.order;
         try_evict(
-            order,
+            self.order,
             regs,
             weights,
             class_of(v, j16, j8),
@@ -274,19 +218,14 @@ impl Dequeued {
     ) -> Decided
         ensures { (hs : List CandidateReg) → Computed self.order regs.now weights.now hs → length hs + length (class_in (lists_in (slices [] [] j16.now j8.now [])) self.v) ≤ 129 → result ≡ none_clear_in (lent_to (lists_in (slices j64.now j32.now j16.now [] [])) ends.now rests.now self.v) j64.now (held_in words.now) jf.now self.flag self.spill_weight (offers_from hs (class_in (lists_in (slices [] [] j16.now j8.now [])) self.v) 0) self.stage }
     {
-        let stage = self.stage;
-        let Stage::Evict = stage else {
-            return without_reg(Fate::Leaves);
+        let Stage::Evict = self.stage else {
+            return Decided::Leaves;
         };
-        let best = self.cheapest(regs, weights, words, j64, j32, j16, j8, jf, ends, rests);
-        if best.found {
-            let cost = best.cost;
-            return evicts(best, !(cost.spill_weight < self.spill_weight));
+        match self.cheapest(regs, weights, words, j64, j32, j16, j8, jf, ends, rests) {
+            Some(best) => evicts(best, !(best.cost.spill_weight < self.spill_weight)),
+            None if self.spill_weight == f32::INFINITY => Decided::Fails,
+            None => Decided::Splits,
         }
-        if is_infinite(self.spill_weight) {
-            return without_reg(Fate::Fails);
-        }
-        without_reg(Fate::Splits)
     }
 
     // The decision by the candidates of the order.
@@ -306,7 +245,7 @@ impl Dequeued {
         ensures { (hs : List CandidateReg) → Computed self.order regs.now weights.now hs → length hs ≤ 65 → length (class_in (lists_in (slices [] [] j16.now j8.now [])) self.v) ≤ 64 → result ≡ in_order (lent_to (lists_in (slices j64.now j32.now j16.now [] [])) ends.now rests.now self.v) j64.now (held_in words.now) jf.now hs (class_in (lists_in (slices [] [] j16.now j8.now [])) self.v) self.flag self.spill_weight self.stage }
     {
         match self.available(regs, weights, j64, j32, j16, j8, ends, rests) {
-            Available::NoCandidates => without_reg(Fate::Leaves),
+            Available::NoCandidates => Decided::Leaves,
             Available::Clear(c) => {
                 self.with_clear(c, regs, weights, words, j64, j32, j16, jf, ends, rests)
             }
@@ -341,7 +280,7 @@ pub fn decide(
         v,
         stage,
         flag: flag_of(record_of(at(words, i))),
-        spill_weight: at_float(jf, i),
+        spill_weight: at(jf, i),
         order,
     };
     d.in_order(&regs, &weights, words, j64, j32, j16, j8, jf, ends, rests)

@@ -1,14 +1,14 @@
 -- Placing and evicting on lent numbers, in the shape of the code: `uses` are the numbers of the fixed uses, u a unit, v a virtual register.
 -- The laws in proofs/ tie these to Assign.antt. Assumes nothing.
-use Rattle.std.specs.Prelude.{ℕ, zero, suc, ◌+◌, ◌-◌, ◌*◌, ◌/◌, ◌%◌, ◌^◌, ◌≡◌, List, [], ◌∷◌, Bool, cond, ◌&&◌, ltb, leb, eqb, length, drop, get_or}
+use Rattle.std.specs.Prelude.{ℕ, zero, suc, ◌+◌, ◌-◌, ◌*◌, ◌/◌, ◌%◌, ◌^◌, ◌≡◌, List, [], ◌∷◌, Bool, Result, cond, ◌&&◌, ltb, leb, eqb, length, drop, get_or}
 use Rattle.std.proofs.Math.Option.{Option, none, some}
 use Rattle.reg_matrix.specs.Lists.{foldl}
 use Rattle.reg_matrix.specs.Table.{units_of}
 use Rattle.reg_matrix.specs.Refusals.{refusal, ◌if◌, short_buffer}
 use Rattle.reg_matrix.specs.Layout.{max_entries, max_fixed}
 use Rattle.table_words.specs.Search.{place_of}
-use Rattle.entries.specs.declared.Moved.{Moved}
-use Rattle.entries.specs.declared.Moved.TheVariants.{Done, Refused}
+use Rattle.reg_matrix.specs.declared.Refusal.{Refusal}
+use Rattle.reg_matrix.specs.Refused.{refusal_in}
 use Rattle.entries.specs.Moves.{Words, inserting, removing, removing_run}
 
 -- the fixed uses of lower units have lower numbers, and so have the unit's that start before p
@@ -87,10 +87,6 @@ move_limits n = max_entries ∷ max_entries ∷ max_fixed ∷ n ∷ []
 unfoldable pub move_refusal : List ℕ → ℕ → ℕ → Option ℕ
 move_refusal lent n v = refusal (15 if short_buffer (move_limits n) lent ∷ 8 if leb 512 v ∷ [])
 
-abbrev pub moved : Option ℕ → Moved
-moved none = Done
-moved (some n) = Refused n
-
 abbrev pub sizes : Words → List ℕ → List ℕ → List ℕ
 sizes w uses tos = length w.ends ∷ length w.rests ∷ length uses ∷ length tos ∷ []
 
@@ -100,11 +96,11 @@ unless_refused none after w = after
 unless_refused (some n) after w = w
 
 -- What `assign` promises of any numbers: its answer, and all that is in the table's two slices afterwards.
-pub record Assigned (v m : ℕ) (uses froms tos : List ℕ) (w w' : Words) (r : Moved) : Type 0 where
-  pub answer : r ≡ moved (move_refusal (sizes w uses tos) (length froms) v)
+pub record Assigned (v m : ℕ) (uses froms tos : List ℕ) (w w' : Words) (r : Result (Unit {0}) Refusal) : Type 0 where
+  pub answer : refusal_in r ≡ move_refusal (sizes w uses tos) (length froms) v
   pub after : w' ≡ unless_refused (move_refusal (sizes w uses tos) (length froms) v) (assigning uses v m froms tos w) w
 
 -- the same of `evict`
-pub record Evicted (v m : ℕ) (uses tos : List ℕ) (w w' : Words) (r : Moved) : Type 0 where
-  pub answer : r ≡ moved (move_refusal (sizes w uses tos) (length tos) v)
+pub record Evicted (v m : ℕ) (uses tos : List ℕ) (w w' : Words) (r : Result (Unit {0}) Refusal) : Type 0 where
+  pub answer : refusal_in r ≡ move_refusal (sizes w uses tos) (length tos) v
   pub after : w' ≡ unless_refused (move_refusal (sizes w uses tos) (length tos) v) (evicting uses v m tos w) w

@@ -4,10 +4,3 @@
 
 pub mod reserve;
 pub mod table;
-
-// What placing or evicting answers: it is done, or the number of a refusal, which has changed nothing.
-#[derive(Clone, Copy)]
-pub enum Moved {
-    Done,
-    Refused(u8),
-}

@@ -7,7 +7,7 @@ ghost use Rattle.evict_costs.specs.Costs.{add_holder, with_holder, may_evict};
 
 use allocator::EvictCost;
 
-// The heavier of two weights.
+// The heavier of two weights. `a.max(b)` is another function: of a number and what is no number it gives the number.
 fn heavier(a: f32, b: f32) -> f32
     ensures { result ≡ max_weight a b }
 {
@@ -38,25 +38,12 @@ pub fn with_holder(cost: EvictCost, seen: bool, held: f32, spill: f32) -> EvictC
 pub fn is_cheaper(a: EvictCost, b: EvictCost) -> bool
     ensures { result ≡ cheaper a b }
 {
-    if a.preference_weight < b.preference_weight {
-        return true;
-    }
-    if a.preference_weight == b.preference_weight {
-        a.spill_weight < b.spill_weight
-    } else {
-        false
-    }
+    a < b
 }
 
 // Whether a candidate of this weight may evict holders of this spill weight for a number with this flag and spill weight.
 pub fn may_evict(weight: f32, flag: bool, spill: f32, own: f32) -> bool
     ensures { result ≡ may_evict weight flag spill own }
 {
-    if spill < own {
-        return true;
-    }
-    if flag {
-        return false;
-    }
-    if weight == 0.0 { false } else { true }
+    spill < own || (!flag && weight != 0.0)
 }

@@ -3,7 +3,6 @@ use Prim.Native.Nat.{ℕ, ◌+◌, ◌-◌, ◌≤◌, ◌<◌}
 use native.Mathlib.Omega.{arith}
 use mathlib.Core.Path.{◌≡◌, refl, ap, ◌∙◌}
 use mathlib.Core.List.{List, [], ◌∷◌, ◌++◌, map, map-append}
-use mathlib.Core.Bool.{Bool}
 use lib.Ieee.{Float}
 use lib.ListN.{length, drop, set, length-map, length-drop}
 use lib.Seq.{drop-append-le, length-sets}
@@ -12,21 +11,15 @@ use Rattle.reg_matrix.specs.declared.ValueSegment.{ValueSegment}
 use Rattle.job.specs.declared.Hint.{Hint}
 use Rattle.job.specs.declared.VirtRegFields.{VirtRegFields}
 use Rattle.job.specs.Model.{VirtReg}
-use Rattle.job.specs.Parser.{parsed, if_bit, each}
-use Rattle.job.specs.Load.{count_of, hints, segments, virt_reg_fields, virt_reg_at, virt_reg_after}
+use Rattle.job.specs.Parser.{parsed, if_bit}
+use Rattle.job.specs.Load.{hints, segments, virt_reg_fields, virt_reg_at, virt_reg_after}
 use Rattle.job.specs.Layout.{starts_from}
 use Rattle.job.proofs.Lists.{starts_length}
-use Rattle.reader.specs.declared.read.Number.TheVariants.{Is as IsNumber}
-use Rattle.reader.specs.declared.read.Number.{Number}
-use Rattle.reader.specs.Read.{Num, table_of, Counted, hints_of_all, segments_of_all}
-use Rattle.reader.proofs.Answers.{took_num}
-use Rattle.reader.proofs.Reading.{Reading, begin, more, each_length}
-use Rattle.reader.proofs.Tables.{concat_more, concat_length, starts_then, counted, joined, virt_is, hints_in_length, segments_in_length}
-use Rattle.fields.specs.Virt.{in32, in16, in8, in_weights, HintsAt, SegmentsAt, FieldsAt, VirtsAt, VirtOut, VirtsOut, TableOut}
-use Rattle.fields.specs.declared.virt.VirtsRead.{VirtsRead}
-use Rattle.fields.specs.declared.virt.VirtsRead.TheVariants.{Is as AreVirts}
-use Rattle.fields.specs.declared.virt.VirtTable.TheVariants.{Is as IsTable}
-use Rattle.fields.specs.declared.virt.VirtRead.TheVariants.{Is as IsVirt}
+use Rattle.std.specs.Prelude.{Ok}
+use Rattle.reader.specs.Read.{Counted, hints_of_all, segments_of_all}
+use Rattle.reader.proofs.Reading.{Reading, begin, more}
+use Rattle.reader.proofs.Tables.{concat_more, concat_length, starts_then, joined, virt_is, hints_in_length, segments_in_length}
+use Rattle.fields.specs.Virt.{in32, in16, in8, in_weights, HintsAt, SegmentsAt, FieldsAt, VirtsAt, VirtOut}
 use Rattle.fields.proofs.Slices.{more_32, more_16, more_8, more_weights}
 
 -- one, from its fields, its hints and its segments
@@ -35,9 +28,9 @@ pub virt_out :
     → h ≤ 1024
     → g ≤ 512
     → virt_reg_fields classes n (drop at s) ≡ parsed f (drop at₁ s)
-    → Counted s (if_bit (bit 4 f.map) [] (hints regs h) (drop at₁ s)) length (1024 - h) (IsNumber k at₂) hs
-    → Counted s (segments g (drop at₂ s)) length (512 - g) (IsNumber l next) ss
-    → VirtOut s (virt_reg_at regs classes n h g (drop at s)) h g (IsVirt f k l next) hs ss
+    → Counted s (if_bit (bit 4 f.map) [] (hints regs h) (drop at₁ s)) length (1024 - h) (Ok (k, at₂)) hs
+    → Counted s (segments g (drop at₂ s)) length (512 - g) (Ok (l, next)) ss
+    → VirtOut s (virt_reg_at regs classes n h g (drop at s)) h g (Ok (f, k, l, next)) hs ss
 virt_out s regs classes n h g at at₁ at₂ next k l f a b e w z = (
   joined f w.0 z.0,
   virt_is regs classes n h g (drop at s) e w.1 z.1,
@@ -87,7 +80,7 @@ pub virts_more :
     → SoFar s count start regs classes w h b f w' h' b' f' at hn gn i
     → i < count
     → count ≤ 512
-    → VirtOut s (virt_reg_at regs classes i hn gn (drop at s)) hn gn (IsVirt fs k l next) (HintsAt hn b' f' b₁ f₁) (SegmentsAt gn w' h' w₁ h₁)
+    → VirtOut s (virt_reg_at regs classes i hn gn (drop at s)) hn gn (Ok (fs, k, l, next)) (HintsAt hn b' f' b₁ f₁) (SegmentsAt gn w' h' w₁ h₁)
     → FieldsAt fs i w₁ h₁ b₁ f₁ w₂ h₂ b₂ f₂
     → h₃ ≡ set h₂ (1042 + i) (hn + k)
     → h₄ ≡ set h₃ (1555 + i) (gn + l)
@@ -146,24 +139,3 @@ module _ {w h b w' h' b' : List ℕ} {f f' : List Float} {vs : List VirtReg} (a 
   pub kept_weights : length f' ≡ length f
   unfolding in_weights
   kept_weights = ap length a.jf ∙ simp length-sets
-
--- the table: its count, and then as many
-pub virts_table :
-    (regs classes at : ℕ) (stands : Bool) (stored : List VirtReg → Type 0)
-    {s : List ℕ} {k start h g next : ℕ} {n : Number} (r : VirtsRead)
-    → Num s at (if_bit stands 0 (count_of 2 512)) 512 n
-    → n ≡ IsNumber k start
-    → VirtsOut s (each (virt_reg_after regs classes) k [] (drop start s)) r stored
-    → r ≡ AreVirts h g next
-    → TableOut s (table_of stands 2 512 (virt_reg_after regs classes) (drop at s)) (IsTable k h g next) stored
-virts_table regs classes at stands stored {s} {k} {start} r o e out f =
-    let w = rw f at out in (
-      w.0,
-      counted (virt_reg_after regs classes) stands 2 512 (drop at s) ∙ rw (took_num o e) w.1,
-      each_length (virt_reg_after regs classes) k [] (drop start s) w.1 ∙ omega arith,
-      w.2,
-      w.3,
-      w.4,
-      w.5,
-      w.6,
-    )

@@ -1,16 +1,12 @@
 -- What the readers of virtual registers promise, in the terms of the parsers of Load.antt. What they store stands in the slices of a job (Layout.antt
 -- of the job), where there is room. Assumes nothing.
-use Rattle.std.specs.Prelude.{ℕ, ◌+◌, ◌≤◌, ◌≡◌, List, map, Float, drop, length, set}
+use Rattle.std.specs.Prelude.{ℕ, ◌+◌, ◌≤◌, ◌≡◌, List, map, Float, drop, length, set, Result, Ok, Err}
 use Rattle.std.proofs.lemmas.List.Edits.{sets}
+use Rattle.reg_matrix.specs.Refused.{number_of}
+use Rattle.reg_matrix.specs.declared.Refusal.{Refusal}
 use Rattle.reg_matrix.specs.declared.ValueSegment.{ValueSegment}
 use Rattle.job.specs.declared.Hint.{Hint}
 use Rattle.job.specs.declared.VirtRegFields.{VirtRegFields}
-use Rattle.fields.specs.declared.virt.VirtRead.{VirtRead}
-use Rattle.fields.specs.declared.virt.VirtRead.TheVariants.{Is as IsVirt, Refused as NoVirt}
-use Rattle.fields.specs.declared.virt.VirtsRead.{VirtsRead}
-use Rattle.fields.specs.declared.virt.VirtsRead.TheVariants.{Is as IsVirts, Refused as NoVirts}
-use Rattle.fields.specs.declared.virt.VirtTable.{VirtTable}
-use Rattle.fields.specs.declared.virt.VirtTable.TheVariants.{Is as IsTable, Refused as NoTable}
 use Rattle.job.specs.Model.{VirtReg}
 use Rattle.job.specs.Parser.{Parsed, refused, parsed}
 use Rattle.job.specs.Layout.{starts_from}
@@ -79,17 +75,17 @@ pub record VirtsAt (w h b : List ℕ) (f : List Float) (w' h' b' : List ℕ) (f'
 
 -- ---- the answers
 
-abbrev pub VirtOut : List ℕ → Parsed VirtReg → ℕ → ℕ → VirtRead → (List Hint → Type 0) → (List ValueSegment → Type 0) → Type 0
-VirtOut s p h g (NoVirt n) hs ss = p ≡ refused n
-VirtOut s p h g (IsVirt f k l at) hs ss =
+abbrev pub VirtOut : List ℕ → Parsed VirtReg → ℕ → ℕ → Result (VirtRegFields × ℕ × ℕ × ℕ) Refusal → (List Hint → Type 0) → (List ValueSegment → Type 0) → Type 0
+VirtOut s p h g (Err r) hs ss = p ≡ refused (number_of r)
+VirtOut s p h g (Ok (f, k, l, at)) hs ss =
     (v : VirtReg) × (p ≡ parsed v (drop at s)) × Virt f k l v × (h + k ≤ 1024) × (g + l ≤ 512) × hs v.hints × ss v.segments
 
-abbrev pub VirtsOut : List ℕ → Parsed (List VirtReg) → VirtsRead → (List VirtReg → Type 0) → Type 0
-VirtsOut s p (NoVirts n) stored = p ≡ refused n
-VirtsOut s p (IsVirts h g at) stored =
+abbrev pub VirtsOut : List ℕ → Parsed (List VirtReg) → Result (ℕ × ℕ × ℕ) Refusal → (List VirtReg → Type 0) → Type 0
+VirtsOut s p (Err r) stored = p ≡ refused (number_of r)
+VirtsOut s p (Ok (h, g, at)) stored =
     (vs : List VirtReg) × (p ≡ parsed vs (drop at s)) × (length (hints_of_all vs) ≡ h) × (length (segments_of_all vs) ≡ g) × (h ≤ 1024) × (g ≤ 512) × stored vs
 
-abbrev pub TableOut : List ℕ → Parsed (List VirtReg) → VirtTable → (List VirtReg → Type 0) → Type 0
-TableOut s p (NoTable n) stored = p ≡ refused n
-TableOut s p (IsTable n h g at) stored =
+abbrev pub TableOut : List ℕ → Parsed (List VirtReg) → Result (ℕ × ℕ × ℕ × ℕ) Refusal → (List VirtReg → Type 0) → Type 0
+TableOut s p (Err r) stored = p ≡ refused (number_of r)
+TableOut s p (Ok (n, h, g, at)) stored =
     (vs : List VirtReg) × (p ≡ parsed vs (drop at s)) × (length vs ≡ n) × (length (hints_of_all vs) ≡ h) × (length (segments_of_all vs) ≡ g) × (h ≤ 1024) × (g ≤ 512) × stored vs

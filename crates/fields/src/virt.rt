@@ -9,23 +9,10 @@ use job::{
     CLASSES, HINT_REGS, HINT_STARTS, HINT_WEIGHTS, SEGMENT_STARTS, SETS, SIZES, TOS, VALUES,
     VirtRegFields,
 };
-use lent::{put_float, put8, put16, put32};
-use reader::read::{Next, Number, Read, byte, count16, half};
-use virt_reader::{FieldsRead, HintRead, SegmentRead, hint, segment, virt_fields};
-
-// A virtual register's fields, how many hints and segments it has, and the position after it; or a refusal's number.
-#[derive(Clone, Copy)]
-pub enum VirtRead {
-    Is(VirtRegFields, u64, u64, usize),
-    Refused(u8),
-}
-
-// How many hints and segments the virtual registers have, and the position after them; or a refusal's number.
-#[derive(Clone, Copy)]
-pub enum VirtsRead {
-    Is(u64, u64, usize),
-    Refused(u8),
-}
+use lent::put;
+use reader::read::{count, little};
+use reg_matrix::Refusal;
+use virt_reader::{hint, segment, virt_fields};
 
 // The next `count` segments of one virtual register, stored from place g on.
 fn segments(
@@ -35,80 +22,73 @@ fn segments(
     g: usize,
     j32: &mut [u32],
     j16: &mut [u16],
-) -> Next
+) -> Result<usize, Refusal>
     requires { g + count ≤ 512 }
     ensures { Outcome s.now (each segment_of count [] (drop start s.now)) result (SegmentsAt g j32.old j16.old j32.new j16.new) }
 {
     let mut at = start;
     let mut past: u32 = 0;
-    let mut i = 0;
-    while i < count {
-        match segment(s, at, past) {
-            SegmentRead::Refused(n) => return Next::Refused(n),
-            SegmentRead::Is(seg, next) => {
-                put32(j32, g + i, seg.from);
-                put32(j32, TOS + g + i, seg.to);
-                put16(j16, VALUES + g + i, seg.value);
-                past = seg.to;
-                at = next;
-            }
-        }
-        i += 1;
+    for i in 0..count {
+        let (seg, next) = segment(s, at, past)?;
+        put(j32, g + i, seg.from);
+        put(j32, TOS + g + i, seg.to);
+        put(j16, VALUES + g + i, seg.value);
+        past = seg.to;
+        at = next;
     }
-    Next::At(at)
+    Ok(at)
 }
 
 // How many segments the virtual register has, after `earlier` of the job.
-fn segment_count(s: &[u8], at: usize, earlier: u64) -> Number
+#[tactic(auto, unfolding(job::specs::Load::segment_count))]
+fn segment_count(s: &[u8], at: usize, earlier: u64) -> Result<(u64, usize), Refusal>
     requires { earlier ≤ 512 }
     ensures { Num s.now at (segment_count earlier) (512 - earlier) result }
 {
-    let Read::Value(k, next) = half(s, at) else {
-        return Number::Refused(1);
-    };
+    let (k, next) = little::<2>(s, at)?;
     if 512 - earlier < k {
-        return Number::Refused(4);
+        return Err(Refusal::OverLimit);
     }
     if k == 0 {
-        return Number::Refused(5);
+        return Err(Refusal::Empty);
     }
-    Number::Is(k, next)
+    Ok((k, next))
 }
 
 // The segments: how many, and the position after them.
-fn segment_table(s: &[u8], at: usize, g: u64, j32: &mut [u32], j16: &mut [u16]) -> Number
+#[tactic(auto, unfolding(job::specs::Load::segments))]
+fn segment_table(
+    s: &[u8],
+    at: usize,
+    g: u64,
+    j32: &mut [u32],
+    j16: &mut [u16],
+) -> Result<(u64, usize), Refusal>
     requires { g ≤ 512 }
     ensures { Counted s.now (segments_of g (drop at s.now)) length (512 - g) result (SegmentsAt g j32.old j16.old j32.new j16.new) }
 {
-    match segment_count(s, at, g) {
-        Number::Refused(n) => Number::Refused(n),
-        Number::Is(k, at1) => {
-            match segments(s, at1, k as usize, g as usize, j32, j16) {
-                Next::Refused(n) => Number::Refused(n),
-                Next::At(next) => Number::Is(k, next),
-            }
-        }
-    }
+    let (k, first) = segment_count(s, at, g)?;
+    let next = segments(s, first, k as usize, g as usize, j32, j16)?;
+    Ok((k, next))
 }
 
 // How many hints the virtual register has, after `earlier` of the job.
-fn hint_count(s: &[u8], at: usize, earlier: u64) -> Number
+#[tactic(auto, unfolding(job::specs::Load::hint_count))]
+fn hint_count(s: &[u8], at: usize, earlier: u64) -> Result<(u64, usize), Refusal>
     requires { earlier ≤ 1024 }
     ensures { Num s.now at (hint_count earlier) (1024 - earlier) result }
 {
-    let Read::Value(k, next) = byte(s, at) else {
-        return Number::Refused(1);
-    };
+    let (k, next) = little::<1>(s, at)?;
     if 64 < k {
-        return Number::Refused(4);
+        return Err(Refusal::OverLimit);
     }
     if 1024 < earlier + k {
-        return Number::Refused(4);
+        return Err(Refusal::OverLimit);
     }
     if k == 0 {
-        return Number::Refused(5);
+        return Err(Refusal::Empty);
     }
-    Number::Is(k, next)
+    Ok((k, next))
 }
 
 // The next `count` hints of one virtual register, stored from place h on.
@@ -120,27 +100,22 @@ fn hints(
     h: usize,
     j8: &mut [u8],
     jf: &mut [f32],
-) -> Next
+) -> Result<usize, Refusal>
     requires { h + count ≤ 1024 }
     ensures { Outcome s.now (each (λ before. hint_of regs) count [] (drop start s.now)) result (HintsAt h j8.old jf.old j8.new jf.new) }
 {
     let mut at = start;
-    let mut i = 0;
-    while i < count {
-        match hint(s, at, regs) {
-            HintRead::Refused(n) => return Next::Refused(n),
-            HintRead::Is(x, next) => {
-                put8(j8, HINT_REGS + h + i, x.reg);
-                put_float(jf, HINT_WEIGHTS + h + i, x.weight);
-                at = next;
-            }
-        }
-        i += 1;
+    for i in 0..count {
+        let (x, next) = hint(s, at, regs)?;
+        put(j8, HINT_REGS + h + i, x.reg);
+        put(jf, HINT_WEIGHTS + h + i, x.weight);
+        at = next;
     }
-    Next::At(at)
+    Ok(at)
 }
 
 // The hints where bit 4 of `m` stands: how many, and the position after them.
+#[tactic(auto, unfolding(job::specs::Load::hints))]
 fn hint_table(
     s: &[u8],
     at: usize,
@@ -149,26 +124,20 @@ fn hint_table(
     h: u64,
     j8: &mut [u8],
     jf: &mut [f32],
-) -> Number
+) -> Result<(u64, usize), Refusal>
     requires { h ≤ 1024 }
     ensures { Counted s.now (if_bit (eqb (m / 16 % 2) 1) [] (hints_of regs h) (drop at s.now)) length (1024 - h) result (HintsAt h j8.old jf.old j8.new jf.new) }
 {
-    if m / 16 % 2 == 1 {
-        match hint_count(s, at, h) {
-            Number::Refused(n) => Number::Refused(n),
-            Number::Is(k, at1) => {
-                match hints(s, at1, k as usize, regs, h as usize, j8, jf) {
-                    Next::Refused(n) => Number::Refused(n),
-                    Next::At(next) => Number::Is(k, next),
-                }
-            }
-        }
-    } else {
-        Number::Is(0, at)
+    if m / 16 % 2 != 1 {
+        return Ok((0, at));
     }
+    let (k, first) = hint_count(s, at, h)?;
+    let next = hints(s, first, k as usize, regs, h as usize, j8, jf)?;
+    Ok((k, next))
 }
 
-// The virtual register `n`, after h hints and g segments of the job.
+// The virtual register `n`, after h hints and g segments of the job: its fields, how many hints and segments it has, and the position after it.
+#[tactic(auto, unfolding(job::specs::Load::virt_reg_at))]
 fn virt_reg(
     s: &[u8],
     at: usize,
@@ -181,20 +150,14 @@ fn virt_reg(
     j16: &mut [u16],
     j8: &mut [u8],
     jf: &mut [f32],
-) -> VirtRead
+) -> Result<(VirtRegFields, u64, u64, usize), Refusal>
     requires { (h ≤ 1024) × (g ≤ 512) }
     ensures { VirtOut s.now (virt_reg_at regs classes n h g (drop at s.now)) h g result (HintsAt h j8.old jf.old j8.new jf.new) (SegmentsAt g j32.old j16.old j32.new j16.new) }
 {
-    match virt_fields(s, at, classes, n) {
-        FieldsRead::Refused(k) => VirtRead::Refused(k),
-        FieldsRead::Is(f, at1) => match hint_table(s, at1, f.map, regs as u64, h, j8, jf) {
-            Number::Refused(k) => VirtRead::Refused(k),
-            Number::Is(hn, at2) => match segment_table(s, at2, g, j32, j16) {
-                Number::Refused(k) => VirtRead::Refused(k),
-                Number::Is(gn, next) => VirtRead::Is(f, hn, gn, next),
-            },
-        },
-    }
+    let (f, at1) = virt_fields(s, at, classes, n)?;
+    let (hn, at2) = hint_table(s, at1, f.map, regs as u64, h, j8, jf)?;
+    let (gn, next) = segment_table(s, at2, g, j32, j16)?;
+    Ok((f, hn, gn, next))
 }
 
 // Stores the fields of the virtual register `i`.
@@ -209,13 +172,14 @@ fn put_fields(
     requires { i < 65536 }
     ensures { FieldsAt f i j32.old j16.old j8.old jf.old j32.new j16.new j8.new jf.new }
 {
-    put32(j32, SIZES + i, f.size);
-    put16(j16, SETS + i, f.value_set);
-    put8(j8, CLASSES + i, f.class);
-    put_float(jf, i, f.spill_weight);
+    put(j32, SIZES + i, f.size);
+    put(j16, SETS + i, f.value_set);
+    put(j8, CLASSES + i, f.class);
+    put(jf, i, f.spill_weight);
 }
 
-// The virtual registers: their fields, where the hints and the segments of each end, the hints and the segments of all.
+// The virtual registers: their fields, where the hints and the segments of each end, the hints and the segments of all. Answers how many hints and
+// segments all have, and the position after them.
 fn virt_regs(
     s: &[u8],
     start: usize,
@@ -226,39 +190,26 @@ fn virt_regs(
     j16: &mut [u16],
     j8: &mut [u8],
     jf: &mut [f32],
-) -> VirtsRead
+) -> Result<(u64, u64, usize), Refusal>
     requires { count ≤ 512 }
     ensures { VirtsOut s.now (each (virt_reg_after regs classes) count [] (drop start s.now)) result (VirtsAt j32.old j16.old j8.old jf.old j32.new j16.new j8.new jf.new) }
 {
     let mut at = start;
     let mut h: u64 = 0;
     let mut g: u64 = 0;
-    let mut i: usize = 0;
-    while i < count as usize {
-        match virt_reg(s, at, regs, classes, i as u16, h, g, j32, j16, j8, jf) {
-            VirtRead::Refused(n) => return VirtsRead::Refused(n),
-            VirtRead::Is(f, hn, gn, next) => {
-                put_fields(f, i, j32, j16, j8, jf);
-                h = h + hn;
-                g = g + gn;
-                put16(j16, HINT_STARTS + 1 + i, h as u16);
-                put16(j16, SEGMENT_STARTS + 1 + i, g as u16);
-                at = next;
-            }
-        }
-        i += 1;
+    for i in 0..count as usize {
+        let (f, hn, gn, next) = virt_reg(s, at, regs, classes, i as u16, h, g, j32, j16, j8, jf)?;
+        put_fields(f, i, j32, j16, j8, jf);
+        h += hn;
+        g += gn;
+        put(j16, HINT_STARTS + 1 + i, h as u16);
+        put(j16, SEGMENT_STARTS + 1 + i, g as u16);
+        at = next;
     }
-    VirtsRead::Is(h, g, at)
+    Ok((h, g, at))
 }
 
-// How many virtual registers, hints and segments there are, and the position after them; or a refusal's number.
-#[derive(Clone, Copy)]
-pub enum VirtTable {
-    Is(u16, u64, u64, usize),
-    Refused(u8),
-}
-
-// The virtual registers where their bit stands.
+// The virtual registers where their bit stands: how many, how many hints and segments they have, and the position after them.
 pub fn virt_table(
     s: &[u8],
     at: usize,
@@ -269,14 +220,10 @@ pub fn virt_table(
     j16: &mut [u16],
     j8: &mut [u8],
     jf: &mut [f32],
-) -> VirtTable
+) -> Result<(u16, u64, u64, usize), Refusal>
     ensures { TableOut s.now (table_of stands 2 512 (virt_reg_after regs classes) (drop at s.now)) result (VirtsAt j32.old j16.old j8.old jf.old j32.new j16.new j8.new jf.new) }
 {
-    match count16(s, at, stands, 512) {
-        Number::Refused(n) => VirtTable::Refused(n),
-        Number::Is(k, at1) => match virt_regs(s, at1, k as u16, regs, classes, j32, j16, j8, jf) {
-            VirtsRead::Refused(n) => VirtTable::Refused(n),
-            VirtsRead::Is(h, g, next) => VirtTable::Is(k as u16, h, g, next),
-        },
-    }
+    let (k, first) = count::<2>(s, at, stands, 512)?;
+    let (h, g, next) = virt_regs(s, first, k as u16, regs, classes, j32, j16, j8, jf)?;
+    Ok((k as u16, h, g, next))
 }

@@ -8,8 +8,7 @@ use Rattle.reg_matrix.specs.Layout.{use_words}
 use Rattle.reg_matrix.specs.Questions.{table_limits}
 use Rattle.reg_matrix.specs.declared.ValueSegment.{ValueSegment}
 use Rattle.job.specs.declared.Hint.{Hint}
-use Rattle.job.specs.declared.Probe.{Probe}
-use Rattle.job.specs.declared.Probe.TheVariants.{Over, NoProbe}
+use Rattle.std.specs.Prelude.{Option as Maybe, Some, None}
 use Rattle.job.specs.declared.JobHeader.{JobHeader}
 use Rattle.job.specs.Model.{Job, VirtReg, zero_weight}
 
@@ -124,9 +123,9 @@ lists_in B =
 -- ---- what goes by value
 
 -- layout: 01, "The job", the probe range, by value
-abbrev pub probe_of : Option ValueSegment → Probe
-probe_of none = NoProbe
-probe_of (some s) = Over s.from s.to
+abbrev pub probe_of : Option ValueSegment → Maybe (ℕ × ℕ)
+probe_of none = None
+probe_of (some s) = Some (s.from, s.to)
 
 -- layout: 01, "The job", the header's counts, probe range and budget, by value
 unfoldable pub header_of : Job → JobHeader

@@ -28,20 +28,14 @@ pub struct VirtRegFields {
     pub size: u32,
 }
 
-// 01, "The printed sheet": the range that the spare line asks about, if the job has one.
-#[derive(Clone, Copy)]
-pub enum Probe {
-    Over(u32, u32),
-    NoProbe,
-}
-
-// 01, "The job": what goes by value of a loaded job: how many registers, classes and virtual registers there are, the probe range and the budget.
+// 01, "The job": what goes by value of a loaded job: how many registers, classes and virtual registers there are, the probe range, which the spare line
+// asks about, if the job has one, and the budget.
 #[derive(Clone, Copy)]
 pub struct JobHeader {
     pub regs: u8,
     pub classes: u8,
     pub virt_regs: u16,
-    pub probe: Probe,
+    pub probe: Option<(u32, u32)>,
     pub budget: u32,
 }
 

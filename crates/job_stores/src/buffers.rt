@@ -4,9 +4,10 @@ ghost use Rattle.reg_matrix.specs.Refusals.{short_buffer};
 ghost use Rattle.job.specs.Layout.{slices, load_limits};
 ghost use Rattle.job_stores.specs.Storing.{cleared};
 
-use lent::{zero, zero_float, zero8, zero16, zero32};
+use lent::clear;
 
 // Whether one of the sizes lent is below its limit. They come in the limits' order.
+#[tactic(auto, unfolding(reg_matrix::specs::Refusals::short_buffer))]
 pub fn is_short(
     j64: usize,
     j32: usize,
@@ -18,34 +19,16 @@ pub fn is_short(
 ) -> bool
     ensures { result ≡ short_buffer load_limits (j64 ∷ j32 ∷ j16 ∷ j8 ∷ jf ∷ ends ∷ rests ∷ []) }
 {
-    if j64 < 576 {
-        return true;
-    }
-    if j32 < 1536 {
-        return true;
-    }
-    if j16 < 2067 {
-        return true;
-    }
-    if j8 < 2560 {
-        return true;
-    }
-    if jf < 1536 {
-        return true;
-    }
-    if ends < 2560 {
-        return true;
-    }
-    rests < 2560
+    j64 < 576 || j32 < 1536 || j16 < 2067 || j8 < 2560 || jf < 1536 || ends < 2560 || rests < 2560
 }
 
 // Zeros where a job is laid out, but for its fixed uses.
 pub fn clear_job(j64: &mut [u64], j32: &mut [u32], j16: &mut [u16], j8: &mut [u8], jf: &mut [f32])
     ensures { slices j64.new j32.new j16.new j8.new jf.new ≡ cleared (slices j64.old j32.old j16.old j8.old jf.old) }
 {
-    zero(j64, 64);
-    zero32(j32, 1536);
-    zero16(j16, 2067);
-    zero8(j8, 2560);
-    zero_float(jf, 1536);
+    clear(j64, 64);
+    clear(j32, 1536);
+    clear(j16, 2067);
+    clear(j8, 2560);
+    clear(jf, 1536);
 }

@@ -4,7 +4,7 @@ ghost use Rattle.entries.specs.Reserving.{lain, cleared};
 ghost use Rattle.job_stores.specs.Storing.{reserving_all};
 
 use entries::reserve::{clear, reserve_fixed};
-use lent::{at8, at32};
+use lent::at;
 
 // The table and its fixed uses with the first n reservations of the four slices, and nothing else.
 pub fn reserve_all(
@@ -20,17 +20,15 @@ pub fn reserve_all(
     ensures { lain ends.new rests.new words.new ≡ reserving_all units.now froms.now tos.now uses.now n (cleared (lain ends.old rests.old words.old)) }
 {
     clear(ends, rests, words);
-    let mut i: usize = 0;
-    while i < n {
+    for i in 0..n {
         reserve_fixed(
             ends,
             rests,
             words,
-            at8(units, i),
-            at32(froms, i),
-            at32(tos, i),
-            at32(uses, i),
+            at(units, i),
+            at(froms, i),
+            at(tos, i),
+            at(uses, i),
         );
-        i += 1;
     }
 }

@@ -22,7 +22,7 @@ pub fn store_job(
     let mut stops = [0u32; 1];
     let mut uses = [0u32; 1];
     clear_job(j64, j32, j16, j8, jf);
-    job_fields(
+    let _ = job_fields(
         s,
         j64,
         j32,

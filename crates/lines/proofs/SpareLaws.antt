@@ -9,6 +9,10 @@ use mathlib.Core.List.{List, [], ◌++◌}
 use mathlib.Core.Bool.{Bool, true, false, cond}
 use lib.ListN.{get_or}
 use borrow.Author.Tests.{eq-eqb, ne_eqb}
+use Rattle.std.specs.Prelude.{Result, Ok, Err}
+use Rattle.std.specs.Result.{result_unwrap_or}
+use Rattle.reg_matrix.specs.declared.Refusal.{Refusal}
+use Rattle.reg_matrix.specs.Refused.{numbered}
 use Rattle.reg_matrix.specs.Lists.{concat_map, filter, any, bit, count, keep}
 use Rattle.reg_matrix.specs.Lines.{number, sp}
 use Rattle.lines.specs.LineTexts.{is_register_unit, units_text}
@@ -57,3 +61,9 @@ module _ (p : ℕ → Bool) where
   pub units_end : (u : ℕ) → 64 ≤ u → units_text p u ≡ []
   unfolding units_text concat_map filter count
   units_end u h = let e : 64 - u ≡ 0 = omega arith in rw e
+
+-- ---- whether a unit is spare, by the answer of the question
+
+pub by_answer : (r : Result Bool Refusal) → result_unwrap_or r false ≡ result_unwrap_or (numbered r) false
+by_answer (Ok b) = refl
+by_answer (Err n) = refl

@@ -1,12 +1,12 @@
 -- The texts of the sheet's lines, in the shape of the code, from any lent numbers. Assumes nothing.
-use Rattle.std.specs.Prelude.{ℕ, ◌-◌, List, [], ◌∷◌, ◌++◌, Bool, true, false, ◌&&◌, length, get_or}
+use Rattle.std.specs.Prelude.{ℕ, ◌-◌, List, [], ◌∷◌, ◌++◌, Bool, false, ◌&&◌, length, get_or}
+use Rattle.std.specs.Result.{result_unwrap_or}
 use Rattle.reg_matrix.specs.Lists.{ascii, concat_map, filter, any, bit, count}
 use Rattle.reg_matrix.specs.Lines.{number, sp, line}
 use Rattle.reg_matrix.specs.Questions.{spare_refusal}
+use Rattle.reg_matrix.specs.Refused.{or_refused}
 use Rattle.entries.specs.Moves.{words}
-use Rattle.unit_free.specs.Spare.{free_at, range, spare_answer}
-use Rattle.unit_free.specs.declared.UnitFree.{UnitFree}
-use Rattle.unit_free.specs.declared.UnitFree.TheVariants.{Free, Taken, NotAsked}
+use Rattle.unit_free.specs.Spare.{free_at, range}
 
 -- what is lent: the registers' maps of units, and the table's two slices
 pub record Lent : Type 0 where
@@ -23,16 +23,11 @@ lent maps ends rests = record { maps = maps; ends = ends; rests = rests }
 unfoldable pub is_register_unit : List ℕ → ℕ → ℕ → Bool
 is_register_unit maps n u = any (λ r. bit u (get_or maps r 0)) (count 0 n)
 
-abbrev pub is_free : UnitFree → Bool
-is_free Free = true
-is_free Taken = false
-is_free (NotAsked n) = false
-
 unfoldable pub is_spare : Lent → ℕ → ℕ → ℕ → ℕ → Bool
 is_spare l n from to u =
     is_register_unit l.maps n u
-    && is_free
-    (spare_answer (spare_refusal (length l.ends ∷ length l.rests ∷ []) u (range from to)) (free_at u from to (words l.ends l.rests)))
+    && result_unwrap_or
+    (or_refused (spare_refusal (length l.ends ∷ length l.rests ∷ []) u (range from to)) (free_at u from to (words l.ends l.rests))) false
 
 -- the spare units from u on
 unfoldable pub units_text : (ℕ → Bool) → ℕ → List ℕ

@@ -5,22 +5,24 @@
 ghost use Rattle.std.specs.Prelude.{◌≡◌, [], cond, ◌<◌};
 ghost use Rattle.reg_matrix.specs.Lines.{number as decimal, sp, index_text, reservation_text, entry_line};
 ghost use Rattle.texts.specs.Texts.{Stored};
-ghost use Rattle.lines.specs.LineTexts.{lent, is_register_unit, is_free, is_spare, spare_text};
+ghost use Rattle.lines.specs.LineTexts.{lent, is_register_unit, is_spare, spare_text};
 
 use lent::at;
-use reg_matrix::{Entry, FixedIndex, Reservation};
+use reg_matrix::{Entry, Reservation};
 use texts::{byte, number, spaced, text};
-use unit_free::{UnitFree, is_unit_free};
+use unit_free::is_unit_free;
 
-fn index(line: &mut [u8], at: usize, i: FixedIndex) -> usize
+#[tactic(auto, unfolding(reg_matrix::specs::Lists::ascii))]
+fn index(line: &mut [u8], at: usize, i: Option<u16>) -> usize
     ensures { Stored line.old at (sp (index_text i)) line.new result }
 {
     match i {
-        FixedIndex::NoIndex => text(line, at, b" -"),
-        FixedIndex::At(n) => spaced(line, at, n as u64),
+        None => text(line, at, b" -"),
+        Some(n) => spaced(line, at, n as u64),
     }
 }
 
+#[tactic(auto, unfolding(reg_matrix::specs::Lists::ascii, reg_matrix::specs::Lines::reservation_text))]
 fn reservation(line: &mut [u8], at: usize, held: Reservation) -> usize
     ensures { Stored line.old at (reservation_text held) line.new result }
 {
@@ -52,33 +54,21 @@ pub fn entry_line(line: &mut [u8], entry: Entry) -> usize
 }
 
 // Whether a unit is one of those of the first `regs` registers.
+#[tactic(auto, using(crate::proofs::SpareLaws::unit_start, crate::proofs::SpareLaws::unit_here, crate::proofs::SpareLaws::unit_more, crate::proofs::SpareLaws::unit_end))]
 fn is_register_unit(maps: &[u64], regs: u8, unit: u8) -> bool
     requires { unit < 64 }
     ensures { result ≡ is_register_unit maps.now regs unit }
 {
-    let u = unit as u64;
-    let n = regs as usize;
-    let mut i = 0;
-    while i < n {
-        if (at(maps, i) >> u) % 2 == 1 {
+    for i in 0..regs as usize {
+        if (at(maps, i) >> unit) % 2 == 1 {
             return true;
         }
-        i += 1;
     }
     false
 }
 
-fn is_free(answer: UnitFree) -> bool
-    ensures { result ≡ is_free answer }
-{
-    match answer {
-        UnitFree::Free => true,
-        UnitFree::Taken => false,
-        UnitFree::NotAsked(_) => false,
-    }
-}
-
 // Whether the spare line has a unit.
+#[tactic(auto, using(crate::proofs::SpareLaws::by_answer), unfolding(crate::specs::LineTexts::is_spare))]
 fn is_free_register_unit(
     maps: &[u64],
     regs: u8,
@@ -91,13 +81,11 @@ fn is_free_register_unit(
     requires { unit < 64 }
     ensures { result ≡ is_spare (lent maps.now ends.now rests.now) regs from to unit }
 {
-    if is_register_unit(maps, regs, unit) {
-        return is_free(is_unit_free(ends, rests, unit, from, to));
-    }
-    false
+    is_register_unit(maps, regs, unit) && is_unit_free(ends, rests, unit, from, to).unwrap_or(false)
 }
 
 // A unit of the spare line, where it is spare.
+#[tactic(auto, using(texts::proofs::StoreLaws::nothing))]
 fn free_unit(line: &mut [u8], at: usize, unit: u8, spare: bool) -> usize
     ensures { Stored line.old at (cond spare (sp (decimal unit)) []) line.new result }
 {
@@ -120,11 +108,9 @@ pub fn free_units_line(
     ensures { Stored line.old 0 (spare_text (lent maps.now ends.now rests.now) regs from to) line.new result }
 {
     let mut at = text(line, 0, b"spare");
-    let mut unit: u8 = 0;
-    while unit < 64 {
+    for unit in 0..64 {
         let spare = is_free_register_unit(maps, regs, ends, rests, from, to, unit);
         at = free_unit(line, at, unit, spare);
-        unit += 1;
     }
     byte(line, at, b'\n')
 }

@@ -5,8 +5,7 @@ use mathlib.Core.List.{List, ◌∷◌}
 use mathlib.Core.Bool.{Bool, true, false, cond}
 use lib.ListN.{length}
 use Rattle.reg_matrix.specs.Layout.{max_entries}
-use Rattle.job.specs.declared.Probe.{Probe}
-use Rattle.job.specs.declared.Probe.TheVariants.{Over, NoProbe}
+use Rattle.std.specs.Prelude.{Option, Some, None}
 use Rattle.job.specs.declared.JobHeader.{JobHeader}
 use Rattle.allocator.specs.declared.Assignment.{Assignment}
 use Rattle.lines.specs.LineTexts.{Lent}
@@ -15,9 +14,9 @@ use Rattle.listing.specs.declared.Place.TheVariants.{Head, VirtReg, Entry, End}
 use Rattle.listing.specs.declared.Listing.{Listing}
 use Rattle.listing.specs.Walk.{is_entry, entry_at, spare_lines, entry_lines, virt_reg_lines, lines_at, lines_from}
 
-spare_few : (p : Probe) (n : ℕ) (l : Lent) → length (spare_lines p n l) ≤ 1
-spare_few NoProbe n l = omega arith
-spare_few (Over from to) n l = omega arith
+spare_few : (p : Option (ℕ × ℕ)) (n : ℕ) (l : Lent) → length (spare_lines p n l) ≤ 1
+spare_few None n l = omega arith
+spare_few (Some (from, to)) n l = omega arith
 
 entry_few : (k i : ℕ) (h : JobHeader) (l : Lent) → length (entry_lines k i h l) ≤ k + 1
 unfolding entry_lines

@@ -15,12 +15,9 @@ use Rattle.reg_matrix.specs.Lists.{ascii, concat_map, filter, count, keep}
 use Rattle.reg_matrix.specs.Lines.{number, sp, refused_line, index_text, reservation_text, entry_line}
 use Rattle.reg_matrix.specs.Layout.{max_entries, entry_of}
 use Rattle.reg_matrix.specs.declared.Entry.{Entry}
-use Rattle.reg_matrix.specs.declared.FixedIndex.{FixedIndex}
-use Rattle.reg_matrix.specs.declared.FixedIndex.TheVariants.{At, NoIndex}
+use Rattle.std.specs.Prelude.{Option, Some, None, Result, Ok, Err}
 use Rattle.reg_matrix.specs.declared.Reservation.{Reservation}
 use Rattle.reg_matrix.specs.declared.Reservation.TheVariants.{Held, FixedUse, FixedDef}
-use Rattle.job.specs.declared.Probe.{Probe}
-use Rattle.job.specs.declared.Probe.TheVariants.{Over, NoProbe}
 use Rattle.allocator.specs.declared.Assignment.{Assignment}
 use Rattle.allocator.specs.declared.Assignment.TheVariants.{Assigned, Unassigned, Dead}
 use Rattle.allocator.specs.declared.Ending.{Ending}
@@ -29,8 +26,6 @@ use Rattle.allocator.specs.Sheet.{end_word, end_line, standing}
 use Rattle.listing.specs.declared.Place.{Place}
 use Rattle.listing.specs.declared.Place.TheVariants.{Head, VirtReg, Entry as EntryAt, End}
 use Rattle.listing.specs.declared.Listing.{Listing}
-use Rattle.listing.specs.declared.Step.{Step}
-use Rattle.listing.specs.declared.Step.TheVariants.{Line, Refused, End as NoMore}
 use Rattle.texts.proofs.Digits.{number_length, number_short}
 use Rattle.lines.specs.LineTexts.{Lent, is_spare, units_text, spare_text}
 use Rattle.result_lines.specs.ResultTexts.{standing_text}
@@ -50,10 +45,10 @@ number_small End = omega arith
 -- ---- one by one
 
 module _ (c : Listing) (rs : List Assignment) (l : Lent) where
-  spares : (p : Probe) (n : ℕ) → spare_lines p n l ≡ lines_of c rs l (spare_found p n l)
+  spares : (p : Option (ℕ × ℕ)) (n : ℕ) → spare_lines p n l ≡ lines_of c rs l (spare_found p n l)
   unfolding lines_from
-  spares NoProbe n = refl
-  spares (Over from to) n = refl
+  spares None n = refl
+  spares (Some (from, to)) n = refl
 
   entry_or_spares :
       (i : ℕ) (b : Bool)
@@ -155,9 +150,9 @@ entry_room e =
     let d = most (ascii "u " ++ number e.unit ++ sp (number e.from) ++ sp (number e.to)) (reservation_text e.reservation) 64 47 c (held e.reservation) in
     omega (arith, most (ascii "u " ++ number e.unit ++ sp (number e.from) ++ sp (number e.to) ++ reservation_text e.reservation) (10 ∷ []) 111 1 d (omega arith))
   where
-    index : (i : FixedIndex) → length (sp (index_text i)) ≤ 21
-    index NoIndex = omega arith
-    index (At i) = spaced_most i
+    index : (i : Option ℕ) → length (sp (index_text i)) ≤ 21
+    index None = omega arith
+    index (Some i) = spaced_most i
 
     held : (r : Reservation) → length (reservation_text r) ≤ 47
     held (Held v i) = most (ascii " held " ++ number v) (sp (index_text i)) 26 21 (most (ascii " held ") (number v) 6 20 (omega arith) (number_length v)) (index i)
@@ -195,9 +190,9 @@ Room no_more = Unit {0}
 Room (a_line text p) = length text ≤ line_limit
 
 module _ (c : Listing) (a : Assignment) (l : Lent) where
-  room_spare : (p : Probe) (n : ℕ) → Room (spare_found p n l)
-  room_spare NoProbe n = tt
-  room_spare (Over from to) n = spare_room l n from to
+  room_spare : (p : Option (ℕ × ℕ)) (n : ℕ) → Room (spare_found p n l)
+  room_spare None n = tt
+  room_spare (Some (from, to)) n = spare_room l n from to
 
   room_entry : (i : ℕ) → Room (entry_found i c.header l)
   unfolding entry_found
@@ -226,25 +221,25 @@ module _ (c : Listing) (a : Assignment) (l : Lent) where
 -- ---- what `next` answers, on a lent line that is long enough
 
 -- what is left to print, by the answer: nothing; or the front of the lent line, and then the lines from the next position
-abbrev pub Told : Listing → List Assignment → Lent → List ℕ → Step → Type 0
-Told c rs l t NoMore = lines_from c rs l ≡ []
-Told c rs l t (Line n next) = lines_from c rs l ≡ take n t ∷ lines_from next rs l
-Told c rs l t (Refused n) = ⊥
+abbrev pub Told : Listing → List Assignment → Lent → List ℕ → Result (Option (ℕ × Listing)) ℕ → Type 0
+Told c rs l t (Ok None) = lines_from c rs l ≡ []
+Told c rs l t (Ok (Some (n, next))) = lines_from c rs l ≡ take n t ∷ lines_from next rs l
+Told c rs l t (Err n) = ⊥
 
 module _ (c : Listing) (rs : List Assignment) (l : Lent) (s : List ℕ) (long : line_limit ≤ length s) where
-  found_told : (f : Found) → Room f → lines_from c rs l ≡ lines_of c rs l f → Told c rs l (printed_on s f) (step_of c f)
+  found_told : (f : Found) → Room f → lines_from c rs l ≡ lines_of c rs l f → Told c rs l (printed_on s f) (Ok (step_of c f))
   found_told no_more k e = e
   found_told (a_line text p) k e = e ∙ ap (λ (x : List ℕ). x ∷ lines_from (moved c p) rs l) (sym (front s text (omega (arith, k, long))))
 
   -- with the record that the position asks about
   pub next_told :
-      (t : List ℕ) (r : Step)
+      (t : List ℕ) (r : Result (Option (ℕ × Listing)) ℕ)
       → AnsweredIfLong c (found c (record_at rs c.place) l) s t r
       → Told c rs l t r
   next_told t r a =
       let f = found c (record_at rs c.place) l in
       let b = le-ltb (length s) line_limit long in
-      let p' : r ≡ step_of c f = a.0 ∙ ap (λ (b : Bool). cond b (Refused 15) (step_of c f)) b in
+      let p' : r ≡ Ok (step_of c f) = a.0 ∙ ap (λ (b : Bool). cond b (Err 15) (Ok (step_of c f))) b in
       let q' : t ≡ printed_on s f = a.1 ∙ ap (λ (b : Bool). cond b s (printed_on s f)) b in
-      subst (λ (x : Step). Told c rs l t x) (sym p')
-      (subst (λ (x : List ℕ). Told c rs l x (step_of c f)) (sym q') (found_told f (found_room c (record_at rs c.place) l) (lines_told c rs l)))
+      subst (λ (x : Result (Option (ℕ × Listing)) ℕ). Told c rs l t x) (sym p')
+      (subst (λ (x : List ℕ). Told c rs l x (Ok (step_of c f))) (sym q') (found_told f (found_room c (record_at rs c.place) l) (lines_told c rs l)))

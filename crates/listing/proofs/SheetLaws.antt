@@ -23,7 +23,7 @@ use Rattle.reg_matrix.specs.declared.Entry.{Entry}
 use Rattle.reg_matrix.proofs.Members.{◌∈◌}
 use Rattle.reg_matrix.proofs.Places.{padded_length, from_zero}
 use Rattle.entries.specs.Moves.{words}
-use Rattle.unit_free.specs.Spare.{free_at, range, spare_answer}
+use Rattle.unit_free.specs.Spare.{range}
 use Rattle.placing.proofs.Asked.{filled_at}
 use Rattle.table_words.proofs.Decode.{entry_back}
 use Rattle.placing.proofs.Evicted.{word_at}
@@ -40,7 +40,7 @@ use Rattle.allocator.proofs.Good.{Good, good_reached}
 use Rattle.stage.proofs.Reached.{entries_fit, walkable}
 use Rattle.stage.proofs.ReachedMoves.{table_stands, spare_found_lem}
 use Rattle.listing.specs.declared.Place.TheVariants.{Head, VirtReg}
-use Rattle.lines.specs.LineTexts.{Lent, is_register_unit, is_free, is_spare, units_text, spare_text}
+use Rattle.lines.specs.LineTexts.{Lent, is_register_unit, is_spare, units_text, spare_text}
 use Rattle.result_lines.specs.ResultTexts.{standing_text}
 use Rattle.listing.specs.Walk.{is_entry, entry_at, record_at, spare_lines, entry_lines, virt_reg_lines, lines_from}
 
@@ -83,10 +83,6 @@ filter_both p q r e (suc n) i h =
 not_refused : (b : Bool) → T (not b) → b ≡ false
 not_refused true t = absurd t
 not_refused false t = refl
-
-free_answer : (b : Bool) → is_free (spare_answer none b) ≡ b
-free_answer true = refl
-free_answer false = refl
 
 -- the question has no value
 same_range : (t : Table) (u : ℕ) (p : ValueSegment) → is_unit_free t u (range p.from p.to) ≡ is_unit_free t u p
@@ -247,7 +243,6 @@ module _ (j : Job) (s : State) (g : Good j s) (rs : List Assignment) (l : Lent) 
         rw (
           register_unit u,
           asked u h,
-          free_answer (free_at u p.from p.to (words l.ends l.rests)),
           spare_found_lem j s g d.ends_behind d.rests_behind (words l.ends l.rests) st u p.from p.to h gs.small.from,
           same_range s.table u p,
         )

@@ -4,8 +4,7 @@ use Rattle.std.specs.Prelude.{ℕ, zero, suc, ◌+◌, ◌-◌, ◌≡◌, List,
 use Rattle.std.proofs.lemmas.List.Edits.{sets}
 use Rattle.reg_matrix.specs.Lines.{entry_line}
 use Rattle.reg_matrix.specs.Layout.{entry_of, greatest, max_entries}
-use Rattle.job.specs.declared.Probe.{Probe}
-use Rattle.job.specs.declared.Probe.TheVariants.{Over, NoProbe}
+use Rattle.std.specs.Prelude.{Option, Some, None, Result, Ok, Err}
 use Rattle.job.specs.declared.JobHeader.{JobHeader}
 use Rattle.allocator.specs.declared.Assignment.{Assignment}
 use Rattle.allocator.specs.declared.Assignment.TheVariants.{Dead}
@@ -15,8 +14,6 @@ use Rattle.result_lines.specs.ResultTexts.{standing_text}
 use Rattle.listing.specs.declared.Place.{Place}
 use Rattle.listing.specs.declared.Place.TheVariants.{Head, VirtReg, Entry, End}
 use Rattle.listing.specs.declared.Listing.{Listing}
-use Rattle.listing.specs.declared.Step.{Step}
-use Rattle.listing.specs.declared.Step.TheVariants.{Line, Refused, End as NoMore}
 
 -- the bytes that a lent line must have room for
 abbrev pub line_limit : ℕ
@@ -29,9 +26,9 @@ pub data Found : Type 0 where
   no_more : Found
   a_line : List ℕ → Place → Found
 
-abbrev pub spare_found : Probe → ℕ → Lent → Found
-spare_found NoProbe n l = no_more
-spare_found (Over from to) n l = a_line (spare_text l n from to) End
+abbrev pub spare_found : Option (ℕ × ℕ) → ℕ → Lent → Found
+spare_found None n l = no_more
+spare_found (Some (from, to)) n l = a_line (spare_text l n from to) End
 
 -- an entry stands at place i
 abbrev pub is_entry : List ℕ → ℕ → Bool
@@ -61,22 +58,22 @@ found c a l = found_at c.place c a l
 abbrev pub moved : Listing → Place → Listing
 moved c p = record { ending = c.ending; dequeues = c.dequeues; header = c.header; place = p }
 
-abbrev pub step_of : Listing → Found → Step
-step_of c no_more = NoMore
-step_of c (a_line text p) = Line (length text) (moved c p)
+abbrev pub step_of : Listing → Found → Option (ℕ × Listing)
+step_of c no_more = None
+step_of c (a_line text p) = Some (length text, moved c p)
 
 abbrev pub printed_on : List ℕ → Found → List ℕ
 printed_on s no_more = s
 printed_on s (a_line text p) = sets s 0 text
 
 -- the answer for what was found, where the lent line was s, and how that line is afterwards
-abbrev pub Answered : Listing → Found → List ℕ → List ℕ → Step → Type 0
+abbrev pub Answered : Listing → Found → List ℕ → List ℕ → Option (ℕ × Listing) → Type 0
 Answered c f s t r = (r ≡ step_of c f) × (t ≡ printed_on s f)
 
 -- the same, or a refusal of a line that is too short, in which nothing is stored
-abbrev pub AnsweredIfLong : Listing → Found → List ℕ → List ℕ → Step → Type 0
+abbrev pub AnsweredIfLong : Listing → Found → List ℕ → List ℕ → Result (Option (ℕ × Listing)) ℕ → Type 0
 AnsweredIfLong c f s t r =
-    (r ≡ cond (ltb (length s) line_limit) (Refused 15) (step_of c f)) × (t ≡ cond (ltb (length s) line_limit) s (printed_on s f))
+    (r ≡ cond (ltb (length s) line_limit) (Err 15) (Ok (step_of c f))) × (t ≡ cond (ltb (length s) line_limit) s (printed_on s f))
 
 -- the number whose record the position asks about
 abbrev pub number_at : Place → ℕ
@@ -91,9 +88,9 @@ number_at End = 0
 abbrev pub record_at : List Assignment → Place → Assignment
 record_at rs p = get_or rs (number_at p) Dead
 
-abbrev pub spare_lines : Probe → ℕ → Lent → List (List ℕ)
-spare_lines NoProbe n l = []
-spare_lines (Over from to) n l = spare_text l n from to ∷ []
+abbrev pub spare_lines : Option (ℕ × ℕ) → ℕ → Lent → List (List ℕ)
+spare_lines None n l = []
+spare_lines (Some (from, to)) n l = spare_text l n from to ∷ []
 
 -- k places of the table, from place i on
 unfoldable pub entry_lines : ℕ → ℕ → JobHeader → Lent → List (List ℕ)

@@ -9,7 +9,7 @@ pub mod sheet;
 
 // Which line is next: the first, that of a virtual register, or that of an entry of the table. Past the last virtual register the entries are next,
 // past the last entry the spare line.
-#[derive(Clone, Copy)]
+#[derive(Clone, Copy, PartialEq, Eq, Debug)]
 pub enum Place {
     Head,
     VirtReg(u16),
@@ -24,13 +24,4 @@ pub struct Listing {
     pub dequeues: u64,
     pub header: JobHeader,
     pub place: Place,
-}
-
-// What the next line is: so many bytes of the lent line, with the position after it; or there is none; or the number of a refusal, which has
-// stored nothing.
-#[derive(Clone, Copy)]
-pub enum Step {
-    Line(usize, Listing),
-    End,
-    Refused(u8),
 }

@@ -1,22 +1,24 @@
 // A walk through the sheet that carries its position by value from line to line (01, "The printed sheet").
 ghost use Rattle.std.specs.Prelude.{◌≡◌, ◌≤◌, ◌<◌, length};
 ghost use Rattle.reg_matrix.specs.Lines.{refused_line};
+ghost use Rattle.reg_matrix.specs.Refused.{numbered};
 ghost use Rattle.listing.specs.declared.Place.TheVariants.{Head};
 ghost use Rattle.texts.specs.Texts.{Stored};
 ghost use Rattle.lines.specs.LineTexts.{lent};
 ghost use Rattle.listing.specs.Walk.{spare_found, entry_found, virt_reg_found, found, moved as moved_to, Answered, AnsweredIfLong, number_at};
 
-use crate::{Listing, Place, Step};
+use crate::{Listing, Place};
 use allocator::{Assignment, Ending};
-use job::{JobHeader, Probe};
+use job::JobHeader;
 use lent::at;
+use reg_matrix::Refusal;
 use table_words::words::entry_of;
 
 // The line `refused N` into a lent line, with its length where there is room for it, as in one of 256 bytes. What there is no room for is not stored.
-pub fn refused(n: u8, line: &mut [u8]) -> usize
+pub fn refused(n: u64, line: &mut [u8]) -> usize
     ensures { Stored line.old 0 (refused_line n) line.new result }
 {
-    result_lines::refused_line(line, n as u64)
+    result_lines::refused_line(line, n)
 }
 
 impl Listing {
@@ -36,48 +38,35 @@ impl Listing {
     pub fn number(self) -> usize
         ensures { (result ≡ number_at self.place) × (result < 512) }
     {
-        let place = self.place;
-        match place {
-            Place::VirtReg(v) => {
-                if v < 512 {
-                    return v as usize;
-                }
-                0
-            }
-            Place::Head => 0,
-            Place::Entry(_) => 0,
-            Place::End => 0,
+        match self.place {
+            Place::VirtReg(v) if v < 512 => v as usize,
+            _ => 0,
         }
     }
 
     fn moved(self, place: Place) -> Listing
         ensures { result ≡ moved_to self place }
     {
-        let ending = self.ending;
-        let header = self.header;
-        Listing {
-            ending,
-            dequeues: self.dequeues,
-            header,
-            place,
-        }
+        Listing { place, ..self }
     }
 
-    fn next_free_units(self, maps: &[u64], ends: &[u64], rests: &[u64], line: &mut [u8]) -> Step
+    #[tactic(auto, using(crate::proofs::WalkLaws::told, crate::proofs::LineLaws::spare_room))]
+    fn next_free_units(
+        self,
+        maps: &[u64],
+        ends: &[u64],
+        rests: &[u64],
+        line: &mut [u8],
+    ) -> Option<(usize, Listing)>
         requires { 256 ≤ length line.old }
         ensures { Answered self (spare_found self.header.probe self.header.regs (lent maps.now ends.now rests.now)) line.old line.new result }
     {
-        let header = self.header;
-        let probe = header.probe;
-        match probe {
-            Probe::NoProbe => Step::End,
-            Probe::Over(from, to) => {
-                let n = lines::free_units_line(line, maps, header.regs, ends, rests, from, to);
-                Step::Line(n, self.moved(Place::End))
-            }
-        }
+        let (from, to) = self.header.probe?;
+        let n = lines::free_units_line(line, maps, self.header.regs, ends, rests, from, to);
+        Some((n, self.moved(Place::End)))
     }
 
+    #[tactic(auto, using(crate::proofs::WalkLaws::told, crate::proofs::LineLaws::entry_room), unfolding(crate::specs::Walk::entry_found))]
     fn next_entry(
         self,
         i: usize,
@@ -85,7 +74,7 @@ impl Listing {
         ends: &[u64],
         rests: &[u64],
         line: &mut [u8],
-    ) -> Step
+    ) -> Option<(usize, Listing)>
         requires { 256 ≤ length line.old }
         ensures { Answered self (entry_found i self.header (lent maps.now ends.now rests.now)) line.old line.new result }
     {
@@ -97,9 +86,10 @@ impl Listing {
             return self.next_free_units(maps, ends, rests, line);
         }
         let n = lines::entry_line(line, entry_of(end, at(rests, i)));
-        Step::Line(n, self.moved(Place::Entry(i + 1)))
+        Some((n, self.moved(Place::Entry(i + 1))))
     }
 
+    #[tactic(auto, using(crate::proofs::WalkLaws::told, crate::proofs::LineLaws::standing_room), unfolding(crate::specs::Walk::virt_reg_found))]
     fn next_virt_reg(
         self,
         v: u16,
@@ -108,18 +98,18 @@ impl Listing {
         ends: &[u64],
         rests: &[u64],
         line: &mut [u8],
-    ) -> Step
+    ) -> Option<(usize, Listing)>
         requires { 256 ≤ length line.old }
         ensures { Answered self (virt_reg_found v assignment self.header (lent maps.now ends.now rests.now)) line.old line.new result }
     {
-        let header = self.header;
-        if header.virt_regs <= v {
+        if self.header.virt_regs <= v {
             return self.next_entry(0, maps, ends, rests, line);
         }
         let n = result_lines::standing_line(line, v, assignment);
-        Step::Line(n, self.moved(Place::VirtReg(v + 1)))
+        Some((n, self.moved(Place::VirtReg(v + 1))))
     }
 
+    #[tactic(auto, using(crate::proofs::WalkLaws::told, crate::proofs::LineLaws::end_room), unfolding(crate::specs::Walk::found))]
     fn next_line(
         self,
         assignment: Assignment,
@@ -127,20 +117,18 @@ impl Listing {
         ends: &[u64],
         rests: &[u64],
         line: &mut [u8],
-    ) -> Step
+    ) -> Option<(usize, Listing)>
         requires { 256 ≤ length line.old }
         ensures { Answered self (found self assignment (lent maps.now ends.now rests.now)) line.old line.new result }
     {
-        let place = self.place;
-        match place {
+        match self.place {
             Place::Head => {
-                let ending = self.ending;
-                let n = result_lines::end_line(line, ending, self.dequeues);
-                Step::Line(n, self.moved(Place::VirtReg(0)))
+                let n = result_lines::end_line(line, self.ending, self.dequeues);
+                Some((n, self.moved(Place::VirtReg(0))))
             }
             Place::VirtReg(v) => self.next_virt_reg(v, assignment, maps, ends, rests, line),
             Place::Entry(i) => self.next_entry(i, maps, ends, rests, line),
-            Place::End => Step::End,
+            Place::End => None,
         }
     }
 
@@ -154,12 +142,12 @@ impl Listing {
         ends: &[u64],
         rests: &[u64],
         line: &mut [u8],
-    ) -> Step
-        ensures { AnsweredIfLong self (found self assignment (lent maps.now ends.now rests.now)) line.old line.new result }
+    ) -> Result<Option<(usize, Listing)>, Refusal>
+        ensures { AnsweredIfLong self (found self assignment (lent maps.now ends.now rests.now)) line.old line.new (numbered result) }
     {
         if line.len() < 256 {
-            return Step::Refused(15);
+            return Err(Refusal::ShortBuffer);
         }
-        self.next_line(assignment, maps, ends, rests, line)
+        Ok(self.next_line(assignment, maps, ends, rests, line))
     }
 }

@@ -9,7 +9,11 @@ use lib.Seq.{drop-drop}
 use borrow.Rule.Slice.PartMut.{mid_of, put_mid}
 use Rattle.lent.proofs.Laws.{all_from}
 use borrow.Author.Tests.{lt-ltb, le-ltb}
+use Rattle.std.specs.Prelude.{Ok, Err}
 use Rattle.reg_matrix.specs.Lists.{is_nil}
+use Rattle.reg_matrix.specs.Refused.{number_of}
+use Rattle.reg_matrix.specs.declared.Refusal.{Refusal}
+use Rattle.reg_matrix.specs.declared.Refusal.TheVariants.{OverLimit, ShortBuffer}
 use Rattle.reg_matrix.specs.Refusals.{short_buffer}
 use Rattle.reg_matrix.specs.Layout.{max_entries, max_fixed}
 use Rattle.job.specs.declared.JobHeader.{JobHeader}
@@ -25,7 +29,6 @@ use Rattle.reader.specs.Read.{FixedAt}
 use Rattle.whole_fields.specs.Whole.{SizesOf}
 use Rattle.job_stores.specs.Storing.{Stores, reserving_all}
 use Rattle.loader.specs.Loading.{Lent, lent, sizes_of, Sized, tested_job, later, LoadDone}
-use Rattle.loader.specs.declared.load.JobLoaded.TheVariants.{Is, Refused}
 use Rattle.loader.proofs.Reserves.{reserved_job}
 use Rattle.loader.proofs.Laying.{room, front_kept, all_later}
 
@@ -50,11 +53,11 @@ module _ (j : Job) (t : List ℕ) where
 -- ---- loading's answer
 
 module _ (s : List ℕ) (b : Lent) where
-  refused_done : {n : ℕ} → load_with load_limits (sizes_of b) s ≡ not_loaded n → LoadDone s b b (Refused n)
+  refused_done : {e : Refusal} → load_with load_limits (sizes_of b) s ≡ not_loaded (number_of e) → LoadDone s b b (Err e)
   refused_done e = record { parts = rw e (refl, refl) }
 
-  loaded_done : (b' : Lent) (j : Job) {h : JobHeader} → load_with load_limits (sizes_of b) s ≡ loaded j → h ≡ header_of j → b' ≡ later j b → LoadDone s b b' (Is h)
-  loaded_done b' j e d q = record { parts = rw e (ap Is d, q) }
+  loaded_done : (b' : Lent) (j : Job) {h : JobHeader} → load_with load_limits (sizes_of b) s ≡ loaded j → h ≡ header_of j → b' ≡ later j b → LoadDone s b b' (Ok h)
+  loaded_done b' j e d q = record { parts = rw e (ap Ok d, q) }
 
 -- the rest of a slice, put back
 rest_put : (xs ys : List ℕ) → put_mid 64 (length xs - 64) xs ys ≡ take 64 xs ++ ys
@@ -63,11 +66,11 @@ rest_put xs ys =
     ∙ ap (λ (l : List ℕ). take 64 xs ++ l) (append-nil ys)
 
 module _ (s : List ℕ) (b : Lent) {r : Bool} (q : r ≡ short_buffer load_limits (sizes_of b)) where
-  pub short_done : r ≡ true → LoadDone s b b (Refused 15)
+  pub short_done : r ≡ true → LoadDone s b b (Err ShortBuffer)
   unfolding load_with whole_job
   short_done e = refused_done s b (rw (sym q ∙ e))
 
-  pub long_done : r ≡ false → 32_768 < length s → LoadDone s b b (Refused 4)
+  pub long_done : r ≡ false → 32_768 < length s → LoadDone s b b (Err OverLimit)
   unfolding load_with whole_job
   long_done e h = refused_done s b (rw (sym q ∙ e, lt-ltb 32_768 (length s) h))
 
@@ -80,7 +83,7 @@ module _ (s : List ℕ) (b : Lent) (sized : Sized s b) where
   unfolding load_with whole_job tested_job
   tested_loads = rw (sized.sizes, le-ltb 32_768 (length s) sized.bytes)
 
-  pub tests_done : {n : ℕ} → tested_job s ≡ refused n → LoadDone s b b (Refused n)
+  pub tests_done : {e : Refusal} → tested_job s ≡ refused (number_of e) → LoadDone s b b (Err e)
   tests_done f = refused_done s b (tested_loads ∙ ap as_loaded f)
 
   kept_job :
@@ -93,7 +96,7 @@ module _ (s : List ℕ) (b : Lent) (sized : Sized s b) where
       → (512 ≤ length n) × (512 ≤ length f) × (512 ≤ length g) × (512 ≤ length u)
       → Stores s b.job B
       → lain ends rests W ≡ reserving_all n' f' g' u' z.fixed (cleared (lain b.ends b.rests (drop 64 B.j64)))
-      → LoadDone s b (lent (record { j64 = take 64 B.j64 ++ W; j32 = B.j32; j16 = B.j16; j8 = B.j8; jf = B.jf }) ends rests) (Is h)
+      → LoadDone s b (lent (record { j64 = take 64 B.j64 ++ W; j32 = B.j32; j16 = B.j16; j8 = B.j8; jf = B.jf }) ends rests) (Ok h)
   kept_job B W ends rests j t z bytes e d y fx roomy st re =
       let a : load_with load_limits (sizes_of b) s ≡ loaded j = tested_loads ∙ ap as_loaded e in
       let p = loads_premises load_limits (sizes_of b) s j bytes a in
@@ -117,8 +120,8 @@ module _ (s : List ℕ) (b : Lent) (sized : Sized s b) where
       → (512 ≤ length n) × (512 ≤ length f) × (512 ≤ length g) × (512 ≤ length u)
       → Stores s b.job B
       → lain ends rests W ≡ reserving_all n' f' g' u' z.fixed (cleared (lain b.ends b.rests (mid_of 64 (length B.j64 - 64) B.j64)))
-      → LoadDone s b (lent (record { j64 = put_mid 64 (length B.j64 - 64) B.j64 W; j32 = B.j32; j16 = B.j16; j8 = B.j8; jf = B.jf }) ends rests) (Is h)
+      → LoadDone s b (lent (record { j64 = put_mid 64 (length B.j64 - 64) B.j64 W; j32 = B.j32; j16 = B.j16; j8 = B.j8; jf = B.jf }) ends rests) (Ok h)
   job_done B W ends rests j t {h} z {n} {f} {g} {u} {n'} {f'} {g'} {u'} bytes e d y fx roomy st re =
       let w = rest_put B.j64 W in
-      subst (λ (v : List ℕ). LoadDone s b (lent (record { j64 = v; j32 = B.j32; j16 = B.j16; j8 = B.j8; jf = B.jf }) ends rests) (Is h)) (sym w)
+      subst (λ (v : List ℕ). LoadDone s b (lent (record { j64 = v; j32 = B.j32; j16 = B.j16; j8 = B.j8; jf = B.jf }) ends rests) (Ok h)) (sym w)
       (kept_job B W ends rests j t z bytes e d y fx roomy st (re ∙ ap (λ (v : List ℕ). reserving_all n' f' g' u' z.fixed (cleared (lain b.ends b.rests v))) (all_from 64 B.j64)))

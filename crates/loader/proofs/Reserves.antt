@@ -6,7 +6,7 @@ use mathlib.Core.List.{List}
 use lib.ListN.{length, drop, get_or}
 use Rattle.reg_matrix.specs.Lists.{foldl, count}
 use Rattle.reg_matrix.specs.Layout.{max_entries, max_fixed, reservation_word}
-use Rattle.reg_matrix.specs.declared.FixedIndex.{FixedIndex}
+use Rattle.std.specs.Prelude.{Option}
 use Rattle.reg_matrix.specs.declared.Reservation.{Reservation}
 use Rattle.reg_matrix.specs.declared.Reservation.TheVariants.{Held, FixedUse, FixedDef}
 use Rattle.reg_matrix.proofs.Members.{get_d_in}
@@ -20,7 +20,7 @@ use Rattle.job_stores.specs.Storing.{reserving_all}
 use Rattle.job_tests.proofs.Places.{fold_at}
 use Rattle.job_tests.proofs.WholeTests.{no_entry, stored_at}
 
-word_is : (r : Reservation) → ((v : ℕ) (i : FixedIndex) → r ≡ Held v i → ⊥) → use_number r ≡ reservation_word r
+word_is : (r : Reservation) → ((v : ℕ) (i : Option ℕ) → r ≡ Held v i → ⊥) → use_number r ≡ reservation_word r
 word_is (Held v i) h = absurd (h v i refl)
 word_is (FixedUse x) h = refl
 word_is FixedDef h = refl

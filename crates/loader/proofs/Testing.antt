@@ -8,7 +8,11 @@ use lib.ListN.{length, drop, length-map}
 use lib.Seq.{drop-cons, sets, length-sets}
 use Rattle.lent.specs.Parts.{Begins}
 use Rattle.lent.proofs.Laws.{begins_stored, begins_behind}
+use Rattle.std.specs.Prelude.{Ok, Err}
 use Rattle.reg_matrix.specs.Lists.{is_nil}
+use Rattle.reg_matrix.specs.Refused.{number_of}
+use Rattle.reg_matrix.specs.declared.Refusal.{Refusal}
+use Rattle.reg_matrix.specs.declared.Refusal.TheVariants.{ShortJob, Tail, UnfitMap, OverLimit, Empty, BadPoint, Unsorted, UnknownNumber, BadWeight, Twin, MixedSet, CutUse, WrongStanding, Interference, ShortBuffer}
 use Rattle.reg_matrix.specs.declared.Entry.{Entry}
 use Rattle.reg_matrix.specs.declared.ValueSegment.{ValueSegment}
 use Rattle.job.specs.declared.Hint.{Hint}
@@ -20,14 +24,12 @@ use Rattle.job.specs.Layout.{starts_from, JobSlices, header_of}
 use Rattle.job.proofs.Fields.{GoodJob, fields_good}
 use Rattle.job.proofs.Lists.{starts_length}
 use Rattle.whole_fields.specs.declared.TableSizes.{TableSizes}
-use Rattle.whole_fields.specs.declared.JobRead.TheVariants.{Is, Refused}
 use Rattle.reader.specs.Read.{FixedAt, all_members, hints_of_all, segments_of_all}
 use Rattle.fields.specs.Virt.{in32, in16, in8, hint_ends, segment_ends}
 use Rattle.whole_fields.specs.Whole.{SizesOf, JobAt, JobOut}
 use Rattle.reader.proofs.Tables.{segments_in_length}
 use Rattle.job_tests.specs.Tests.{whole_number}
 use Rattle.loader.specs.Loading.{tested_job, job_refusal, TestedOut}
-use Rattle.loader.specs.declared.load.JobTested.TheVariants.{Is as IsTested, Refused as NotTested}
 use Rattle.job_tests.proofs.WholeTests.{twin_is, mixed_is, cut_is}
 
 -- ---- the tail
@@ -208,28 +210,45 @@ numbers_are j h y B good e z a es d =
 
 -- ---- the first reading's answer
 
-pub fields_out : (s : List ℕ) {n : ℕ} {stored : Job → Type 0} {fixed : List Entry → Type 0} → JobOut s (job_fields s) (Refused n) stored → TestedOut (tested_job s) (NotTested n) fixed
+-- a refusal has a number
+pub some_number : (e : Refusal) → number_of e ≡ 0 → ⊥
+some_number ShortJob q = omega arith
+some_number Tail q = omega arith
+some_number UnfitMap q = omega arith
+some_number OverLimit q = omega arith
+some_number Empty q = omega arith
+some_number BadPoint q = omega arith
+some_number Unsorted q = omega arith
+some_number UnknownNumber q = omega arith
+some_number BadWeight q = omega arith
+some_number Twin q = omega arith
+some_number MixedSet q = omega arith
+some_number CutUse q = omega arith
+some_number WrongStanding q = omega arith
+some_number Interference q = omega arith
+some_number ShortBuffer q = omega arith
+
+pub fields_out : (s : List ℕ) {e : Refusal} {stored : Job → Type 0} {fixed : List Entry → Type 0} → JobOut s (job_fields s) (Err e) stored → TestedOut (tested_job s) (Err e) fixed
 fields_out s o = record { parts = fields_refuse s o.parts }
 
-pub tail_out : (s : List ℕ) {h : JobHeader} {z : TableSizes} {at : ℕ} {stored : Job → Type 0} {fixed : List Entry → Type 0} → JobOut s (job_fields s) (Is h z at) stored → at < length s → TestedOut (tested_job s) (NotTested 2) fixed
+pub tail_out : (s : List ℕ) {h : JobHeader} {z : TableSizes} {at : ℕ} {stored : Job → Type 0} {fixed : List Entry → Type 0} → JobOut s (job_fields s) (Ok (h, z, at)) stored → at < length s → TestedOut (tested_job s) (Err Tail) fixed
 tail_out s {at} o l = record { parts = fields_refuse_tail s o.parts.1 (something_left s at l) }
 
-module _ (s : List ℕ) (bytes : Bytes s) {h : JobHeader} {y : TableSizes} {at x : ℕ} (B B' : JobSlices) {n f t u n' f' t' u' : List ℕ}
-    (out : JobOut s (job_fields s) (Is h y at) (JobAt B B' (FixedAt n f t u n' f' t' u')))
+module _ (s : List ℕ) (bytes : Bytes s) {h : JobHeader} {y : TableSizes} {at : ℕ} (B B' : JobSlices) {n f t u n' f' t' u' : List ℕ}
+    (out : JobOut s (job_fields s) (Ok (h, y, at)) (JobAt B B' (FixedAt n f t u n' f' t' u')))
     (room : Roomy B)
     (fixed : (512 ≤ length f) × (512 ≤ length t) × (512 ≤ length u))
     (all : length s ≤ at)
-    (is : x ≡ job_refusal B'.j64 B'.j32 B'.j16 B'.j8 f' t' u' h y)
   where
-    number : whole_number (twin out.parts.0) (mixed_set out.parts.0) (cut_use out.parts.0) ≡ x
+    number : whole_number (twin out.parts.0) (mixed_set out.parts.0) (cut_use out.parts.0) ≡ job_refusal B'.j64 B'.j32 B'.j16 B'.j8 f' t' u' h y
     number =
         let a = out.parts.4 in
         let good = fields_good s bytes out.parts.1 in
-        sym (numbers_are out.parts.0 h y B' good out.parts.2 out.parts.3 (asked out.parts.0 B B' (few out.parts.0 good out.parts.3) room a) a.reserved fixed) ∙ sym is
+        sym (numbers_are out.parts.0 h y B' good out.parts.2 out.parts.3 (asked out.parts.0 B B' (few out.parts.0 good out.parts.3) room a) a.reserved fixed)
 
-    pub none_out : x ≡ 0 → TestedOut (tested_job s) (IsTested h y) (FixedAt n f t u n' f' t' u')
+    pub none_out : 0 ≡ job_refusal B'.j64 B'.j32 B'.j16 B'.j8 f' t' u' h y → TestedOut (tested_job s) (Ok (h, y)) (FixedAt n f t u n' f' t' u')
     none_out w =
-        record { parts = (out.parts.0, drop at s, tested_all s out.parts.1 (nothing_left s at all) (number ∙ w), out.parts.2, out.parts.3, out.parts.4.reserved) }
+        record { parts = (out.parts.0, drop at s, tested_all s out.parts.1 (nothing_left s at all) (number ∙ sym w), out.parts.2, out.parts.3, out.parts.4.reserved) }
 
-    pub one_out : (x ≡ 0 → ⊥) → TestedOut (tested_job s) (NotTested x) (FixedAt n f t u n' f' t' u')
-    one_out w = record { parts = tested_one s out.parts.1 (nothing_left s at all) number w }
+    pub one_out : {e : Refusal} → number_of e ≡ job_refusal B'.j64 B'.j32 B'.j16 B'.j8 f' t' u' h y → TestedOut (tested_job s) (Err e) (FixedAt n f t u n' f' t' u')
+    one_out {e} w = record { parts = tested_one s out.parts.1 (nothing_left s at all) (number ∙ sym w) (some_number e) }

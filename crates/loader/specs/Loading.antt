@@ -1,9 +1,11 @@
 -- Loading, in the shape of the code: what is lent, what the two readings of a job promise, and what loading leaves. Assumes nothing.
-use Rattle.std.specs.Prelude.{ℕ, ◌≤◌, ◌≡◌, List, [], ◌∷◌, ◌++◌, false, not, ◌||◌, length, drop}
+use Rattle.std.specs.Prelude.{ℕ, ◌≤◌, ◌≡◌, List, [], ◌∷◌, ◌++◌, false, not, ◌||◌, length, drop, Result, Ok, Err}
 use Rattle.reg_matrix.specs.Lists.{any, any_pair, count, is_nil}
 use Rattle.reg_matrix.specs.Refusals.{short_buffer}
 use Rattle.reg_matrix.specs.Table.{fresh_table}
 use Rattle.reg_matrix.specs.Layout.{max_entries, end_words, rest_words}
+use Rattle.reg_matrix.specs.Refused.{number_of, numbered}
+use Rattle.reg_matrix.specs.declared.Refusal.{Refusal}
 use Rattle.reg_matrix.specs.declared.Entry.{Entry}
 use Rattle.job.specs.declared.JobHeader.{JobHeader}
 use Rattle.job.specs.Model.{Job}
@@ -13,10 +15,6 @@ use Rattle.job.specs.Layout.{JobSlices, slices, job_slices, lists_in, load_limit
 use Rattle.whole_fields.specs.declared.TableSizes.{TableSizes}
 use Rattle.whole_fields.specs.Whole.{SizesOf}
 use Rattle.job_tests.specs.Tests.{equal_at, member_twice, classes_differ, crosses_at, whole_number}
-use Rattle.loader.specs.declared.load.JobTested.{JobTested}
-use Rattle.loader.specs.declared.load.JobTested.TheVariants.{Is as IsTested, Refused as NotTested}
-use Rattle.loader.specs.declared.load.JobLoaded.{JobLoaded}
-use Rattle.loader.specs.declared.load.JobLoaded.TheVariants.{Is, Refused}
 
 -- ---- what is lent: the job's slices in the order of their limits, and the table's two
 
@@ -59,12 +57,12 @@ job_refusal j64 j32 j16 j8 starts stops uses h z =
     (any_pair (classes_differ b.classes b.value_sets) (count 0 h.virt_regs))
     (any (crosses_at b.froms b.tos b.values starts stops uses z.fixed) (count 0 z.segments))
 
-abbrev TestedParts : Parsed Job → JobTested → (List Entry → Type 0) → Type 0
-TestedParts p (NotTested n) fixed = p ≡ refused n
-TestedParts p (IsTested h z) fixed = (j : Job) × (t : List ℕ) × (p ≡ parsed j t) × (h ≡ header_of j) × SizesOf z j × fixed j.fixed
+abbrev TestedParts : Parsed Job → Result (JobHeader × TableSizes) Refusal → (List Entry → Type 0) → Type 0
+TestedParts p (Err r) fixed = p ≡ refused (number_of r)
+TestedParts p (Ok (h, z)) fixed = (j : Job) × (t : List ℕ) × (p ≡ parsed j t) × (h ≡ header_of j) × SizesOf z j × fixed j.fixed
 
 -- where these tests answer p: the same refusal, or the job's header and sizes, and the fixed reservations are stored
-pub record TestedOut (p : Parsed Job) (r : JobTested) (fixed : List Entry → Type 0) : Type 0 where
+pub record TestedOut (p : Parsed Job) (r : Result (JobHeader × TableSizes) Refusal) (fixed : List Entry → Type 0) : Type 0 where
   pub parts : TestedParts p r fixed
 
 -- ---- loading
@@ -83,10 +81,10 @@ later j b =
     (end_words (fresh_table j.fixed) ++ drop max_entries b.ends)
     (rest_words (fresh_table j.fixed) ++ drop max_entries b.rests)
 
-abbrev pub LoadParts : Lent → Lent → Loaded → JobLoaded → Type 0
-LoadParts b b' (not_loaded n) r = (r ≡ Refused n) × (b' ≡ b)
-LoadParts b b' (loaded j) r = (r ≡ Is (header_of j)) × (b' ≡ later j b)
+abbrev pub LoadParts : Lent → Lent → Loaded → Result JobHeader Refusal → Type 0
+LoadParts b b' (not_loaded n) r = (numbered r ≡ Err n) × (b' ≡ b)
+LoadParts b b' (loaded j) r = (r ≡ Ok (header_of j)) × (b' ≡ later j b)
 
 -- loading the bytes s, where b is lent, answers r and leaves b': a refusal leaves all as it was
-pub record LoadDone (s : List ℕ) (b b' : Lent) (r : JobLoaded) : Type 0 where
+pub record LoadDone (s : List ℕ) (b b' : Lent) (r : Result JobHeader Refusal) : Type 0 where
   pub parts : LoadParts b b' (load_with load_limits (sizes_of b) s) r

@@ -1,7 +1,8 @@
-// Loading a job: from any bytes to what a job holds, in lent numbers, or to the number of one refusal. The job is read twice: first into local
+// Loading a job: from any bytes to what a job holds, in lent numbers, or to one refusal. The job is read twice: first into local
 // numbers, so that a refusal leaves what is lent as it was, and then into the lent ones.
 ghost use Rattle.std.specs.Prelude.{◌≡◌, ◌≤◌, length};
 ghost use Rattle.job.specs.Layout.{slices};
+ghost use Rattle.reg_matrix.specs.Refused.{number_in};
 ghost use Rattle.reader.specs.Read.{FixedAt};
 ghost use Rattle.loader.specs.Loading.{job_refusal, tested_job, TestedOut, lent, Sized, LoadDone};
 
@@ -10,24 +11,11 @@ use job_stores::buffers::is_short;
 use job_stores::reserve::reserve_all;
 use job_stores::store::store_job;
 use job_tests::tests::whole_refusal;
-use lent::{from8, from16, from32};
-use whole_fields::{JobRead, TableSizes, job_fields};
+use lent::from;
+use reg_matrix::Refusal;
+use whole_fields::{TableSizes, job_fields};
 
-// What the first reading found: what goes by value of the job, and the sizes of its tables; or a refusal's number.
-#[derive(Clone, Copy)]
-pub enum JobTested {
-    Is(JobHeader, TableSizes),
-    Refused(u8),
-}
-
-// What loading answers: what goes by value of the job, or a refusal's number.
-#[derive(Clone, Copy)]
-pub enum JobLoaded {
-    Is(JobHeader),
-    Refused(u8),
-}
-
-// The number of the first of the tests 10, 11 and 12 that refuses the job in these slices, or 0. Its fixed reservations stand in slices of their own.
+// The first of the tests 10, 11 and 12 that refuses the job in these slices. Its fixed reservations stand in slices of their own.
 fn job_refusal(
     j64: &[u64],
     j32: &[u32],
@@ -38,18 +26,18 @@ fn job_refusal(
     uses: &[u32],
     h: JobHeader,
     z: TableSizes,
-) -> u8
-    ensures { result ≡ job_refusal j64.now j32.now j16.now j8.now starts.now stops.now uses.now h z }
+) -> Result<(), Refusal>
+    ensures { number_in result ≡ job_refusal j64.now j32.now j16.now j8.now starts.now stops.now uses.now h z }
 {
     whole_refusal(
         j64,
         j16,
         j8,
-        from8(j8, CLASSES),
-        from16(j16, SETS),
+        from(j8, CLASSES),
+        from(j16, SETS),
         j32,
-        from32(j32, TOS),
-        from16(j16, VALUES),
+        from(j32, TOS),
+        from(j16, VALUES),
         starts,
         stops,
         uses,
@@ -61,7 +49,7 @@ fn job_refusal(
     )
 }
 
-// Reads the job into local numbers and tests the whole. The fixed reservations stand in the four slices then. Of the job's slices there is only as
+// Reads the job into local numbers and tests the whole: what goes by value of it, and the sizes of its tables. The fixed reservations stand in the four slices then. Of the job's slices there is only as
 // much as the tests ask for.
 fn tested(
     s: &[u8],
@@ -69,7 +57,7 @@ fn tested(
     starts: &mut [u32],
     stops: &mut [u32],
     uses: &mut [u32],
-) -> JobTested
+) -> Result<(JobHeader, TableSizes), Refusal>
     requires { (512 ≤ length starts.old) × (512 ≤ length stops.old) × (512 ≤ length uses.old) }
     ensures { TestedOut (tested_job s.now) result (FixedAt units.old starts.old stops.old uses.old units.new starts.new stops.new uses.new) }
 {
@@ -78,20 +66,14 @@ fn tested(
     let mut j16 = [0u16; 1041];
     let mut j8 = [0u8; 1536];
     let mut jf = [0.0f32; 1];
-    match job_fields(
+    let (h, z, at) = job_fields(
         s, &mut j64, &mut j32, &mut j16, &mut j8, &mut jf, units, starts, stops, uses,
-    ) {
-        JobRead::Refused(n) => JobTested::Refused(n),
-        JobRead::Is(h, z, at) => {
-            if at < s.len() {
-                return JobTested::Refused(2);
-            }
-            match job_refusal(&j64, &j32, &j16, &j8, starts, stops, uses, h, z) {
-                0 => JobTested::Is(h, z),
-                n => JobTested::Refused(n),
-            }
-        }
+    )?;
+    if at < s.len() {
+        return Err(Refusal::Tail);
     }
+    job_refusal(&j64, &j32, &j16, &j8, starts, stops, uses, h, z)?;
+    Ok((h, z))
 }
 
 // Loads the job where the sizes lent and its length are tested already: tests its fields in byte order, and the whole, and stores it.
@@ -104,7 +86,7 @@ fn load_sized(
     jf: &mut [f32],
     ends: &mut [u64],
     rests: &mut [u64],
-) -> JobLoaded
+) -> Result<JobHeader, Refusal>
     requires { Sized s.now (lent (slices j64.old j32.old j16.old j8.old jf.old) ends.old rests.old) }
     ensures { LoadDone s.now (lent (slices j64.old j32.old j16.old j8.old jf.old) ends.old rests.old) (lent (slices j64.new j32.new j16.new j8.new jf.new) ends.new rests.new) result }
 {
@@ -112,23 +94,19 @@ fn load_sized(
     let mut starts = [0u32; 512];
     let mut stops = [0u32; 512];
     let mut uses = [0u32; 512];
-    match tested(s, &mut units, &mut starts, &mut stops, &mut uses) {
-        JobTested::Refused(n) => JobLoaded::Refused(n),
-        JobTested::Is(h, z) => {
-            store_job(s, j64, j32, j16, j8, jf);
-            reserve_all(
-                ends,
-                rests,
-                &mut j64[USES..],
-                &units,
-                &starts,
-                &stops,
-                &uses,
-                z.fixed,
-            );
-            JobLoaded::Is(h)
-        }
-    }
+    let (h, z) = tested(s, &mut units, &mut starts, &mut stops, &mut uses)?;
+    store_job(s, j64, j32, j16, j8, jf);
+    reserve_all(
+        ends,
+        rests,
+        &mut j64[USES..],
+        &units,
+        &starts,
+        &stops,
+        &uses,
+        z.fixed,
+    );
+    Ok(h)
 }
 
 // Loads the job of these bytes: tests the sizes lent (15), the job's length (4), its fields in byte order, and the whole (2, 10, 11, 12). What is
@@ -142,7 +120,7 @@ pub fn load(
     jf: &mut [f32],
     ends: &mut [u64],
     rests: &mut [u64],
-) -> JobLoaded
+) -> Result<JobHeader, Refusal>
     ensures { LoadDone s.now (lent (slices j64.old j32.old j16.old j8.old jf.old) ends.old rests.old) (lent (slices j64.new j32.new j16.new j8.new jf.new) ends.new rests.new) result }
 {
     if is_short(
@@ -154,10 +132,10 @@ pub fn load(
         ends.len(),
         rests.len(),
     ) {
-        return JobLoaded::Refused(15);
+        return Err(Refusal::ShortBuffer);
     }
     if 32768 < s.len() {
-        return JobLoaded::Refused(4);
+        return Err(Refusal::OverLimit);
     }
     load_sized(s, j64, j32, j16, j8, jf, ends, rests)
 }

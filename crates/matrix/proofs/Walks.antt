@@ -7,23 +7,21 @@ use mathlib.Core.Path.{◌≡◌, refl, sym, ap, ◌∙◌, subst}
 use mathlib.Core.List.{List, ◌∷◌}
 use mathlib.Core.Bool.{Bool, true, false, cond}
 use lib.Dec.{ltb, leb, eqb}
-use lib.ListN.{length, get_or}
+use lib.ListN.{length}
 use lib.Bits.{and_le_r}
 use lib.Count.{count_trailing_zeros}
-use borrow.Author.Tests.{le-leb, lt-leb, ne_eqb, leb-false, ltb-false, eqb-true, eqb-false}
-use Rattle.reg_matrix.specs.Layout.{max_entries, max_fixed, entry_of}
-use Rattle.matrix.specs.Walk.{Lent, lent, next_entry, next_segment, next_use, onward, under_entry, entered, meeting, entry_step, use_meeting, use_step, later_units, leave_unit, unit_step, step_of, left, emit, walk, remaining, answer, first_report, next_of, heard, Answered}
+use borrow.Author.Tests.{leb-false, ltb-false, eqb-true, eqb-false}
+use Rattle.reg_matrix.specs.Layout.{max_entries, max_fixed}
+use Rattle.matrix.specs.Walk.{Lent, next_entry, next_segment, next_use, onward, under_entry, entered, meeting, entry_step, use_meeting, use_step, later_units, leave_unit, unit_step, step_of, left, emit, walk, remaining, answer, first_report, next_of, heard, Answered}
 use Rattle.reg_matrix.specs.declared.ValueSegment.{ValueSegment}
 use Rattle.reg_matrix.specs.declared.Entry.{Entry}
-use Rattle.reg_matrix.specs.declared.FixedIndex.TheVariants.{At, NoIndex}
+use Rattle.std.specs.Prelude.{Option, Some, None}
 use Rattle.reg_matrix.specs.declared.Reservation.{Reservation}
 use Rattle.reg_matrix.specs.declared.Reservation.TheVariants.{Held, FixedUse, FixedDef}
 use Rattle.reg_matrix.specs.declared.Interference.{Interference}
 use Rattle.matrix.specs.declared.Cursor.{Cursor}
 use Rattle.matrix.specs.declared.Move.{Move}
 use Rattle.matrix.specs.declared.Move.TheVariants.{Meets, Goes, Ends}
-use Rattle.matrix.specs.declared.Step.{Step}
-use Rattle.matrix.specs.declared.Step.TheVariants.{Report, End}
 
 pub cond_by : {A : Type 0} (P : A → Type 0) (b : Bool) (x y : A) → (b ≡ true → P x) → (b ≡ false → P y) → P (cond b x y)
 cond_by P true x y f g = f refl
@@ -74,8 +72,8 @@ module _ (W : Lent) where
     meeting_after us e s FixedDef z = onward_less c c.full e s h k
     meeting_after us e s (FixedUse x) z =
         cond_by (After c) (eqb x s.value) _ _ (λ q. onward_less c c.full e s h k) (λ q. onward_less c c.full e s h k)
-    meeting_after us e s (Held v NoIndex) z = onward_less c c.full e s h k
-    meeting_after us e s (Held v (At i)) z = under_less c us e.unit i z
+    meeting_after us e s (Held v None) z = onward_less c c.full e s h k
+    meeting_after us e s (Held v (Some i)) z = under_less c us e.unit i z
 
     entry_after : (us : List ℕ) (e : Entry) (s : ValueSegment) → c.inner ≡ 0 → After c (entry_step us c e s)
     unfolding entry_step
@@ -186,7 +184,7 @@ module _ (W : Lent) where
 
   -- ---- for the loop
 
-  pub answered : (c : Cursor) (r : Step) → r ≡ next_of W c → Answered W c r
+  pub answered : (c : Cursor) (r : Option (Interference × Cursor)) → r ≡ next_of W c → Answered W c r
   answered c r q = record { decided = q; told = next_told (suc (left W c)) c (omega arith) ∙ ap (heard W) (sym q) }
 
   pub next_goes : (c d : Cursor) → step_of W c ≡ Goes d → next_of W c ≡ next_of W d
@@ -195,36 +193,8 @@ module _ (W : Lent) where
   pub goes_less : (c d : Cursor) → step_of W c ≡ Goes d → left W d < left W c
   goes_less c d q = subst (After c) q (step_after c)
 
-  pub next_meets : (c d : Cursor) (x : Interference) → step_of W c ≡ Meets x d → next_of W c ≡ Report x d
+  pub next_meets : (c d : Cursor) (x : Interference) → step_of W c ≡ Meets x d → next_of W c ≡ Some (x, d)
   next_meets c d x q = next_step c ∙ ap (λ m. answer m (λ d. next_of W d)) q
 
-  pub next_ends : (c : Cursor) → step_of W c ≡ Ends → next_of W c ≡ End
+  pub next_ends : (c : Cursor) → step_of W c ≡ Ends → next_of W c ≡ None
   next_ends c q = next_step c ∙ ap (λ m. answer m (λ d. next_of W d)) q
-
--- ---- for one step
-
-module _ (es rs us fs ts vs : List ℕ) (c : Cursor) (m : Move) (z : c.units ≡ 0 → ⊥) where
-  pub step_past_segments : length fs ≤ c.segment → m ≡ leave_unit es fs c → m ≡ step_of (lent es rs us fs ts vs) c
-  unfolding step_of
-  step_past_segments h q = rw (ne_eqb c.units 0 z, le-leb (length fs) c.segment h) q
-
-  module _ (h : c.segment < length fs) where
-    pub step_past_entries : max_entries ≤ c.entry → m ≡ leave_unit es fs c → m ≡ step_of (lent es rs us fs ts vs) c
-    unfolding step_of
-    step_past_entries k q = rw (ne_eqb c.units 0 z, lt-leb (length fs) c.segment h, le-leb max_entries c.entry k) q
-
-    -- by the numbers that were read
-    pub step_inside :
-        (end rest from to value : ℕ) (e : Entry)
-        → c.entry < max_entries
-        → from ≡ get_or fs c.segment 0
-        → to ≡ get_or ts c.segment 0
-        → value ≡ get_or vs c.segment 0
-        → end ≡ get_or es c.entry 0
-        → rest ≡ get_or rs c.entry 0
-        → e ≡ entry_of end rest
-        → m ≡ unit_step (lent es es us fs fs fs) c e (record { from = from; to = to; value = value })
-        → m ≡ step_of (lent es rs us fs ts vs) c
-    unfolding step_of unit_step
-    step_inside end rest from to value e k f t v a b x q =
-        rw (ne_eqb c.units 0 z, lt-leb (length fs) c.segment h, lt-leb max_entries c.entry k, ← f, ← t, ← v, ← a, ← b, ← x) q

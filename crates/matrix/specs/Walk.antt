@@ -1,7 +1,6 @@
 -- The check's walk over what is lent, on any content: definitions in the shape of the code. Laws in proofs/Walks.antt and proofs/CheckLaw.antt tie
 -- them to Check.antt. Assumes nothing.
-use Rattle.std.specs.Prelude.{ℕ, zero, suc, ◌+◌, ◌-◌, ◌*◌, ◌^◌, ◌%◌, ◌≡◌, List, [], ◌∷◌, Bool, true, cond, ltb, leb, eqb, length, get_or}
-use Rattle.std.proofs.Math.Option.{Option, none, some}
+use Rattle.std.specs.Prelude.{ℕ, zero, suc, ◌+◌, ◌-◌, ◌*◌, ◌^◌, ◌%◌, ◌≡◌, Option, Some, None, List, [], ◌∷◌, Bool, true, cond, ltb, leb, eqb, length, get_or}
 use Rattle.std.specs.Int.Bits.{bit_and}
 use Rattle.std.specs.Int.Count.{count_trailing_zeros}
 use Rattle.reg_matrix.specs.Check.{shared_part, whole_use}
@@ -10,7 +9,6 @@ use Rattle.table_words.specs.Search.{place_of}
 use Rattle.table_words.specs.Segments.{segment_at}
 use Rattle.reg_matrix.specs.declared.ValueSegment.{ValueSegment}
 use Rattle.reg_matrix.specs.declared.Entry.{Entry}
-use Rattle.reg_matrix.specs.declared.FixedIndex.TheVariants.{At, NoIndex}
 use Rattle.reg_matrix.specs.declared.Reservation.{Reservation}
 use Rattle.reg_matrix.specs.declared.Reservation.TheVariants.{Held, FixedUse, FixedDef}
 use Rattle.reg_matrix.specs.declared.Interference.{Interference}
@@ -18,10 +16,6 @@ use Rattle.reg_matrix.specs.declared.InterferenceKind.TheVariants.{Fixed, VirtRe
 use Rattle.matrix.specs.declared.Cursor.{Cursor}
 use Rattle.matrix.specs.declared.Move.{Move}
 use Rattle.matrix.specs.declared.Move.TheVariants.{Meets, Goes, Ends}
-use Rattle.matrix.specs.declared.Step.{Step}
-use Rattle.matrix.specs.declared.Step.TheVariants.{Report, End}
-use Rattle.matrix.specs.declared.Start.{Start}
-use Rattle.matrix.specs.declared.Start.TheVariants.{Checking, Refused}
 
 -- what is lent to a check: the table, the fixed uses, and the segments that it asks about
 pub record Lent : Type 0 where
@@ -76,8 +70,8 @@ entered ends froms m f =
 unfoldable pub meeting : List ℕ → Cursor → Entry → ValueSegment → Reservation → Move
 meeting uses c e s FixedDef = Meets (shared_part c.segment s e Fixed) (onward c.full c e s)
 meeting uses c e s (FixedUse x) = cond (eqb x s.value) (Goes (onward c.full c e s)) (Meets (shared_part c.segment s e Fixed) (onward c.full c e s))
-meeting uses c e s (Held v NoIndex) = Meets (shared_part c.segment s e (VirtReg v)) (onward c.full c e s)
-meeting uses c e s (Held v (At i)) = Meets (shared_part c.segment s e (VirtReg v)) (under_entry uses c e.unit i)
+meeting uses c e s (Held v None) = Meets (shared_part c.segment s e (VirtReg v)) (onward c.full c e s)
+meeting uses c e s (Held v (Some i)) = Meets (shared_part c.segment s e (VirtReg v)) (under_entry uses c e.unit i)
 
 -- at an entry of the unit
 unfoldable pub entry_step : List ℕ → Cursor → Entry → ValueSegment → Move
@@ -139,31 +133,25 @@ unfoldable pub remaining : Lent → Cursor → List Interference
 remaining W c = walk (suc (left W c)) W c
 
 -- the first report within f steps
-abbrev pub answer : Move → (Cursor → Step) → Step
-answer (Meets x d) k = Report x d
+abbrev pub answer : Move → (Cursor → Option (Interference × Cursor)) → Option (Interference × Cursor)
+answer (Meets x d) k = Some (x, d)
 answer (Goes d) k = k d
-answer Ends k = End
+answer Ends k = None
 
-unfoldable pub first_report : ℕ → Lent → Cursor → Step
-first_report zero W c = End
+unfoldable pub first_report : ℕ → Lent → Cursor → Option (Interference × Cursor)
+first_report zero W c = None
 first_report (suc f) W c = answer (step_of W c) (λ d. first_report f W d)
 
-unfoldable pub next_of : Lent → Cursor → Step
+unfoldable pub next_of : Lent → Cursor → Option (Interference × Cursor)
 next_of W c = first_report (suc (left W c)) W c
 
 -- what an answer says of the reports to come
-abbrev pub heard : Lent → Step → List Interference
-heard W (Report x d) = x ∷ remaining W d
-heard W End = []
-
--- ---- the start
-
-abbrev pub start_of : Option ℕ → Cursor → Start
-start_of none c = Checking c
-start_of (some n) c = Refused n
+abbrev pub heard : Lent → Option (Interference × Cursor) → List Interference
+heard W (Some (x, d)) = x ∷ remaining W d
+heard W None = []
 
 -- ---- what the next answer promises: it is decided, and it and the reports after it are those that were to come
 
-pub record Answered (W : Lent) (c : Cursor) (r : Step) : Type 0 where
+pub record Answered (W : Lent) (c : Cursor) (r : Option (Interference × Cursor)) : Type 0 where
   pub decided : r ≡ next_of W c
   pub told : remaining W c ≡ heard W r

@@ -1,23 +1,18 @@
 // The check of a register against the table: a position by value, from which each step answers one report and the next position
 // (specs/Walk.antt). It asks nothing of what is lent.
-ghost use Rattle.std.specs.Prelude.{◌≡◌, ◌≤◌, ◌<◌, max, min, length, get_or, take, [], ◌∷◌};
+ghost use Rattle.std.specs.Prelude.{◌≡◌, ◌≤◌, ◌<◌, length, get_or, take, [], ◌∷◌};
 ghost use Rattle.reg_matrix.specs.Check.{shared_part};
 ghost use Rattle.reg_matrix.specs.Questions.{check_refusal};
+ghost use Rattle.reg_matrix.specs.Refused.{numbered, or_refused};
 ghost use Rattle.table_words.specs.Segments.{segments_in};
-ghost use Rattle.matrix.specs.Walk.{Answered, start_of, lent, later_units, next_entry, next_segment, next_use, onward, under_entry, entered, meeting, entry_step, use_meeting, use_step, leave_unit, unit_step, step_of};
+ghost use Rattle.matrix.specs.Walk.{Answered, lent, later_units, next_entry, next_segment, next_use, onward, under_entry, entered, meeting, entry_step, use_meeting, use_step, leave_unit, unit_step, step_of};
 
-use crate::{Cursor, Move, Start, Step};
-use lent::{at, at16, at32};
-use reg_matrix::{Entry, FixedIndex, Interference, InterferenceKind, Reservation, ValueSegment};
+use crate::{Cursor, Move};
+use lent::at;
+use reg_matrix::{Entry, Interference, InterferenceKind, Refusal, Reservation, ValueSegment};
 use table_words::ranges::{short_buffers, start_refusal};
 use table_words::search::{find, search};
 use table_words::words::{entry_of, use_of};
-
-fn wide(x: u32) -> u64
-    ensures { result ≡ x }
-{
-    x as u64
-}
 
 fn later_units(units: u64) -> u64
     requires { 0 < units }
@@ -33,36 +28,25 @@ fn shared_part(n: usize, s: ValueSegment, e: Entry, k: InterferenceKind) -> Inte
     Interference {
         unit: e.unit,
         segment: n,
-        from: later(e.from, s.from),
-        to: earlier(e.to, s.to),
+        from: e.from.max(s.from),
+        to: e.to.min(s.to),
         kind: k,
     }
 }
 
-fn later(a: u32, b: u32) -> u32
-    ensures { result ≡ max a b }
-{
-    if a < b { b } else { a }
-}
-
-fn earlier(a: u32, b: u32) -> u32
-    ensures { result ≡ min a b }
-{
-    if a < b { a } else { b }
-}
-
 // The position at the lowest unit of a map: its first entry that ends past the first segment's start.
+#[tactic(auto, unfolding(crate::specs::Walk::entered))]
 pub fn enter(ends: &[u64], froms: &[u32], units: u64, full: bool) -> Cursor
     ensures { result ≡ entered ends.now froms.now units full }
 {
-    let unit = wide(u64::trailing_zeros(units));
-    let from = wide(at32(froms, 0));
+    let unit = units.trailing_zeros() as u64;
+    let from = at(froms, 0) as u64;
     Cursor {
-        units: units,
+        units,
         segment: 0,
         entry: find(ends, unit * 0x1_0000_0000 + from + 1),
         inner: 0,
-        full: full,
+        full,
     }
 }
 
@@ -72,11 +56,9 @@ impl Cursor {
         ensures { result ≡ next_entry self }
     {
         Cursor {
-            units: self.units,
-            segment: self.segment,
             entry: self.entry + 1,
             inner: 0,
-            full: self.full,
+            ..self
         }
     }
 
@@ -85,11 +67,9 @@ impl Cursor {
         ensures { result ≡ next_segment self }
     {
         Cursor {
-            units: self.units,
             segment: self.segment + 1,
-            entry: self.entry,
             inner: 0,
-            full: self.full,
+            ..self
         }
     }
 
@@ -98,45 +78,38 @@ impl Cursor {
         ensures { result ≡ next_use self }
     {
         Cursor {
-            units: self.units,
-            segment: self.segment,
-            entry: self.entry,
             inner: self.inner + 1,
-            full: self.full,
+            ..self
         }
     }
 
     // Where the walk goes on after an overlap: an entry that stays and ends past the segment may meet the next segment too.
+    #[tactic(auto, unfolding(crate::specs::Walk::onward))]
     fn onward(self, stays: bool, e: Entry, s: ValueSegment) -> Cursor
         requires { (self.segment < 18446744073709551615) × (self.entry < 2560) }
         ensures { result ≡ onward stays self e s }
     {
-        if stays {
-            if s.to < e.to {
-                self.next_segment()
-            } else {
-                self.next_entry()
-            }
+        if stays && s.to < e.to {
+            self.next_segment()
         } else {
             self.next_entry()
         }
     }
 
     // At a fixed use of the entry's unit, by its number there.
+    #[tactic(auto, unfolding(crate::specs::Walk::under_entry))]
     fn under_entry(self, uses: &[u64], unit: u8, i: u16) -> Cursor
         ensures { result ≡ under_entry uses.now self unit i }
     {
         let first = search(uses, 512, unit as u64 * 0x1_0000_0000_0000);
         Cursor {
-            units: self.units,
-            segment: self.segment,
-            entry: self.entry,
             inner: first + i as usize + 1,
-            full: self.full,
+            ..self
         }
     }
 
     // A segment and an entry overlap: the report, unless it is a fixed use of the segment's own value.
+    #[tactic(auto, unfolding(crate::specs::Walk::meeting))]
     fn meeting(self, uses: &[u64], e: Entry, s: ValueSegment, holder: Reservation) -> Move
         requires { (self.segment < 18446744073709551615) × (self.entry < 2560) }
         ensures { result ≡ meeting uses.now self e s holder }
@@ -158,13 +131,14 @@ impl Cursor {
             Reservation::Held(v, index) => {
                 let part = shared_part(n, s, e, InterferenceKind::VirtReg(v));
                 match index {
-                    FixedIndex::NoIndex => Move::Meets(part, next),
-                    FixedIndex::At(i) => Move::Meets(part, self.under_entry(uses, e.unit, i)),
+                    None => Move::Meets(part, next),
+                    Some(i) => Move::Meets(part, self.under_entry(uses, e.unit, i)),
                 }
             }
         }
     }
 
+    #[tactic(auto, unfolding(crate::specs::Walk::entry_step))]
     fn entry_step(self, uses: &[u64], e: Entry, s: ValueSegment) -> Move
         requires { (self.segment < 18446744073709551615) × (self.entry < 2560) }
         ensures { result ≡ entry_step uses.now self e s }
@@ -175,11 +149,11 @@ impl Cursor {
         if s.to <= e.from {
             return Move::Goes(self.next_segment());
         }
-        let holder = e.reservation;
-        self.meeting(uses, e, s, holder)
+        self.meeting(uses, e, s, e.reservation)
     }
 
     // A fixed use under a held entry is reported whole, even past the entry's end, unless it has the segment's own value.
+    #[tactic(auto, unfolding(crate::specs::Walk::use_meeting))]
     fn use_meeting(self, e: Entry, s: ValueSegment, f: Entry, value: u16) -> Move
         requires { (self.segment < 18446744073709551615) × (self.entry < 2560) × (self.inner ≤ 512) }
         ensures { result ≡ use_meeting self e s f value }
@@ -206,6 +180,7 @@ impl Cursor {
         Move::Meets(whole, self.next_use())
     }
 
+    #[tactic(auto, unfolding(crate::specs::Walk::use_step))]
     fn use_step(self, uses: &[u64], e: Entry, s: ValueSegment) -> Move
         requires { (self.segment < 18446744073709551615) × (self.entry < 2560) × (0 < self.inner) }
         ensures { result ≡ use_step uses.now self e s }
@@ -219,6 +194,7 @@ impl Cursor {
     }
 
     // To the next unit of the map, or to the walk's end.
+    #[tactic(auto, unfolding(crate::specs::Walk::leave_unit))]
     fn leave_unit(self, ends: &[u64], froms: &[u32]) -> Move
         requires { 0 < self.units }
         ensures { result ≡ leave_unit ends.now froms.now self }
@@ -232,12 +208,12 @@ impl Cursor {
     }
 
     // At an entry and a segment that are there.
+    #[tactic(auto, unfolding(crate::specs::Walk::unit_step))]
     fn unit_step(self, ends: &[u64], uses: &[u64], froms: &[u32], e: Entry, s: ValueSegment) -> Move
         requires { (0 < self.units) × (self.segment < 18446744073709551615) × (self.entry < 2560) }
         ensures { result ≡ unit_step (lent ends.now ends.now uses.now froms.now froms.now froms.now) self e s }
     {
-        let unit = u64::trailing_zeros(self.units);
-        if e.unit as u32 != unit {
+        if e.unit as u32 != self.units.trailing_zeros() {
             return self.leave_unit(ends, froms);
         }
         if self.inner == 0 {
@@ -247,6 +223,7 @@ impl Cursor {
         }
     }
 
+    #[tactic(auto, unfolding(crate::specs::Walk::step_of, crate::specs::Walk::unit_step))]
     fn step(
         self,
         ends: &[u64],
@@ -263,16 +240,13 @@ impl Cursor {
         if self.units == 0 {
             return Move::Ends;
         }
-        if froms.len() <= n {
-            return self.leave_unit(ends, froms);
-        }
-        if 2560 <= i {
+        if froms.len() <= n || 2560 <= i {
             return self.leave_unit(ends, froms);
         }
         let s = ValueSegment {
-            from: at32(froms, n),
-            to: at32(tos, n),
-            value: at16(values, n),
+            from: at(froms, n),
+            to: at(tos, n),
+            value: at(values, n),
         };
         let e = entry_of(at(ends, i), at(rests, i));
         self.unit_step(ends, uses, froms, e, s)
@@ -288,29 +262,22 @@ impl Cursor {
         froms: &[u32],
         tos: &[u32],
         values: &[u16],
-    ) -> Step
+    ) -> Option<(Interference, Cursor)>
         ensures { Answered (lent ends.now rests.now uses.now froms.now tos.now values.now) self result }
     {
         let mut c = self;
         loop {
-            let x = c.step(ends, rests, uses, froms, tos, values);
-            match x {
-                Move::Meets(report, d) => {
-                    return Step::Report(report, d);
-                }
-                Move::Ends => {
-                    return Step::End;
-                }
-                Move::Goes(d) => {
-                    c = d;
-                }
+            match c.step(ends, rests, uses, froms, tos, values) {
+                Move::Meets(report, d) => return Some((report, d)),
+                Move::Ends => return None,
+                Move::Goes(d) => c = d,
             }
         }
     }
 }
 
 // Starts a check of the register numbered `reg` among the first `count` maps of units, in the full or the short form. The segments are as
-// many as `froms` has numbers. It tests 15, 8, 5, 6, 7 in this order, and gives the refusal's number or the position at the start.
+// many as `froms` has numbers. It tests 15, 8, 5, 6, 7 in this order, and gives the refusal or the position at the start.
 pub fn check_interference(
     regs: &[u64],
     count: usize,
@@ -322,8 +289,8 @@ pub fn check_interference(
     froms: &[u32],
     tos: &[u32],
     values: &[u16],
-) -> Start
-    ensures { result ≡ start_of (check_refusal (length regs.now ∷ length uses.now ∷ length ends.now ∷ length rests.now ∷ length froms.now ∷ length tos.now ∷ length values.now ∷ []) (take count regs.now) reg (segments_in froms.now tos.now values.now)) (entered ends.now froms.now (get_or regs.now reg 0) full) }
+) -> Result<Cursor, Refusal>
+    ensures { numbered result ≡ or_refused (check_refusal (length regs.now ∷ length uses.now ∷ length ends.now ∷ length rests.now ∷ length froms.now ∷ length tos.now ∷ length values.now ∷ []) (take count regs.now) reg (segments_in froms.now tos.now values.now)) (entered ends.now froms.now (get_or regs.now reg 0) full) }
 {
     let short = short_buffers(
         regs.len(),
@@ -334,9 +301,6 @@ pub fn check_interference(
         tos.len(),
         values.len(),
     );
-    let refusal = start_refusal(short, regs.len(), count, reg, froms, tos);
-    if refusal != 0 {
-        return Start::Refused(refusal);
-    }
-    Start::Checking(enter(ends, froms, at(regs, reg), full))
+    start_refusal(short, regs.len(), count, reg, froms, tos)?;
+    Ok(enter(ends, froms, at(regs, reg), full))
 }

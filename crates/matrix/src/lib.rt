@@ -25,17 +25,3 @@ pub enum Move {
     Goes(Cursor),
     Ends,
 }
-
-// What a check answers: a report with the next position, or its end.
-#[derive(Clone, Copy)]
-pub enum Step {
-    Report(Interference, Cursor),
-    End,
-}
-
-// How a check starts: at a position, or refused with the refusal's number.
-#[derive(Clone, Copy)]
-pub enum Start {
-    Checking(Cursor),
-    Refused(u8),
-}

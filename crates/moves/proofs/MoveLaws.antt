@@ -1,7 +1,7 @@
 -- Moves on a state that calls reach: what each does to what is lent, and that the state of the rules stands there afterwards. Assumes nothing.
 use Prim.Native.Nat.{ℕ, ◌+◌, ◌<◌, ◌≤◌}
 use native.Mathlib.Omega.{arith}
-use mathlib.Core.Path.{◌≡◌, refl, sym, ap, ◌∙◌, subst}
+use mathlib.Core.Path.{◌≡◌, refl, sym, ap, ◌∙◌}
 use mathlib.Core.List.{List, [], ◌++◌, map}
 use mathlib.Core.Option.{Option, none, some}
 use mathlib.Core.Bool.{Bool, false, not}
@@ -16,13 +16,13 @@ use Rattle.reg_matrix.proofs.Tests.{both, not_some}
 use Rattle.reg_matrix.proofs.Places.{padded_length, padded_read, count_length}
 use Rattle.entries.specs.Moves.{words}
 use Rattle.entries.specs.Placing.{Assigned, Evicted}
-use Rattle.entries.specs.declared.Moved.{Moved}
+use Rattle.std.proofs.Common.{Result}
+use Rattle.reg_matrix.specs.declared.Refusal.{Refusal}
 use Rattle.job.specs.Model.{Job, VirtReg, no_virt_reg, virt_reg, unit_map, segments_of, zero_weight}
 use Rattle.job.specs.Layout.{JobBuffers, job_buffers, JobSlices, lists_in, starts_from}
 use Rattle.job.proofs.Lists.{starts_length}
 use Rattle.job.proofs.Premises.{IsNumber}
 use Rattle.job_parts.specs.Shares.{share_of, froms_in, tos_in}
-use Rattle.allocator.specs.declared.Assignment.TheVariants.{Dead}
 use Rattle.allocator.specs.declared.CandidateReg.{CandidateReg}
 use Rattle.allocator.specs.declared.Stage.{Stage}
 use Rattle.allocator.specs.declared.Stage.TheVariants.{Evict}
@@ -34,13 +34,10 @@ use Rattle.allocator.proofs.Rebuilt.{named_known}
 use Rattle.allocator.proofs.Good.{Good, Idle, good_reached, holder_good}
 use Rattle.allocator.proofs.Records.{give_last}
 use Rattle.queue.specs.QueueWalk.{key_of, set_word}
-use Rattle.record_words.specs.Words.{record_word}
 use Rattle.stage.proofs.QueueLaws.{tournament_length, set_tournament, key_is, size_at, has_hints}
 use Rattle.stage.proofs.ReachedMoves.{table_stands, uses_lie, assign_gives, evict_loses}
-use Rattle.decisions.specs.declared.Fate.{Fate}
-use Rattle.decisions.specs.declared.Fate.TheVariants.{Leaves, Takes, Evicts, Splits, Fails}
 use Rattle.moves.specs.Standing.{JobStands}
-use Rattle.moves.specs.Moving.{wide_lists, EvictReads, TakeReads, key_in, TakenBack, Taken, PassedParts, PassedBy}
+use Rattle.moves.specs.Moving.{wide_lists, EvictReads, TakeReads, key_in, TakenBack, Taken}
 use Rattle.moves.proofs.Shares.{froms_share, tos_share}
 
 -- ---- lists
@@ -132,7 +129,7 @@ module _ (j : Job) (s : State) (g : Good j s) where
 -- ---- a number loses its register
 
 pub taken_back :
-    (v reg : ℕ) (B : JobBuffers) (ends rests queue ends' rests' queue' own : List ℕ) (m : ℕ) (uses : List ℕ) (r : Moved)
+    (v reg : ℕ) (B : JobBuffers) (ends rests queue ends' rests' queue' own : List ℕ) (m : ℕ) (uses : List ℕ) (r : Result (Unit {0}) Refusal)
     → own ≡ tos_in B v
     → m ≡ get_or B.regs reg 0
     → uses ≡ B.fixed_uses
@@ -177,7 +174,7 @@ last_set j s g v known c f lt last is =
     w t = last_word (get_or s.last t none)
 
 pub taken :
-    (v reg : ℕ) (B : JobBuffers) (ends rests queue last ends' rests' queue' last' from to : List ℕ) (m : ℕ) (uses : List ℕ) (r : Moved) (k w : ℕ)
+    (v reg : ℕ) (B : JobBuffers) (ends rests queue last ends' rests' queue' last' from to : List ℕ) (m : ℕ) (uses : List ℕ) (r : Result (Unit {0}) Refusal) (k w : ℕ)
     → from ≡ froms_in B v
     → to ≡ tos_in B v
     → m ≡ get_or B.regs reg 0
@@ -226,27 +223,3 @@ taken v reg B ends rests queue last ends' rests' queue' last' from to m uses r k
                 ∙ last_set j s g v known c f t.last last st.last_is;
           };
     }
-
--- ---- no register is taken
-
-module _ (f : Fate) (v key : ℕ) (queue W queue' W' : List ℕ) where
-  abbrev Passes : Type 0
-  Passes = PassedBy f v key queue W queue' W'
-
-  passed : (x : Fate) → f ≡ x → PassedParts x v key queue W queue' W' → Passes
-  passed x e p = record { parts = subst (λ (y : Fate). PassedParts y v key queue W queue' W') (sym e) p }
-
-  pub passed_leaves : f ≡ Leaves → queue' ≡ set_word v 0 queue → (x : ℕ) → x ≡ record_word Dead → W' ≡ set W v x → Passes
-  passed_leaves e p x px r = passed Leaves e (p, r ∙ ap (set W v) px)
-
-  pub passed_splits : f ≡ Splits → queue' ≡ set_word v (key + 1) queue → W' ≡ W → Passes
-  passed_splits e p r = passed Splits e (p, r)
-
-  pub passed_fails : f ≡ Fails → queue' ≡ set_word v 0 queue → W' ≡ W → Passes
-  passed_fails e p r = passed Fails e (p, r)
-
-  pub not_takes : f ≡ Takes → Passes
-  not_takes e = passed Takes e tt
-
-  pub not_evicts : f ≡ Evicts → Passes
-  not_evicts e = passed Evicts e tt

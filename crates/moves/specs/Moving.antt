@@ -14,8 +14,8 @@ use Rattle.allocator.specs.Calls.{named}
 use Rattle.allocator.specs.Reached.{Reached}
 use Rattle.queue.specs.QueueWalk.{key_of, set_word}
 use Rattle.record_words.specs.Words.{record_word}
-use Rattle.decisions.specs.declared.Fate.{Fate}
-use Rattle.decisions.specs.declared.Fate.TheVariants.{Leaves, Takes, Evicts, Splits, Fails}
+use Rattle.decisions.specs.declared.Decided.{Decided}
+use Rattle.decisions.specs.declared.Decided.TheVariants.{Leaves, Takes, Evicts, Splits, Fails}
 use Rattle.moves.specs.Standing.{Moves, Stands}
 
 -- a job's lists in the slices that carrying out reads: those of 64, 32 and 16 bits
@@ -72,13 +72,13 @@ pub record Taken (v reg : ℕ) (B : JobBuffers) (ends rests queue last ends' res
       → Stands j (give j v c f s) t ends' rests' queue' last'
 
 -- v is left over, back in the queue with this key, or off the queue
-abbrev pub PassedParts : Fate → ℕ → ℕ → List ℕ → List ℕ → List ℕ → List ℕ → Type 0
+abbrev pub PassedParts : Decided → ℕ → ℕ → List ℕ → List ℕ → List ℕ → List ℕ → Type 0
 PassedParts Leaves v key queue words queue' words' = (queue' ≡ set_word v 0 queue) × (words' ≡ set words v (record_word Dead))
-PassedParts Takes v key queue words queue' words' = Unit {0}
-PassedParts Evicts v key queue words queue' words' = Unit {0}
+PassedParts (Takes c) v key queue words queue' words' = Unit {0}
+PassedParts (Evicts c f gone) v key queue words queue' words' = Unit {0}
 PassedParts Splits v key queue words queue' words' = (queue' ≡ set_word v (key + 1) queue) × (words' ≡ words)
 PassedParts Fails v key queue words queue' words' = (queue' ≡ set_word v 0 queue) × (words' ≡ words)
 
 -- what becomes of v, which takes no register and has this key at stage Split
-pub record PassedBy (f : Fate) (v key : ℕ) (queue words queue' words' : List ℕ) : Type 0 where
-  pub parts : PassedParts f v key queue words queue' words'
+pub record PassedBy (d : Decided) (v key : ℕ) (queue words queue' words' : List ℕ) : Type 0 where
+  pub parts : PassedParts d v key queue words queue' words'

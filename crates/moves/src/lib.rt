@@ -8,10 +8,10 @@ ghost use Rattle.queue.specs.QueueWalk.{set_word};
 ghost use Rattle.moves.specs.Moving.{key_in, TakenBack, Taken, PassedBy};
 
 use allocator::{Assignment, Stage};
-use decisions::Fate;
+use decisions::Decided;
 use job::{HINT_STARTS, SETS, SIZES, USES};
 use job_parts::{froms_of, tos_of};
-use lent::{at, at16, at32, from, from16, from32, put, put8};
+use lent::{at, from, put};
 use placing::assign::{assign, evict};
 use queue::{enqueue, remove};
 use record_words::word_of;
@@ -21,15 +21,15 @@ fn has_hints(starts: &[u16], v: u16) -> bool
     ensures { result ≡ ltb (get_or starts.now v 0) (get_or starts.now (v + 1) 0) }
 {
     let i = v as usize;
-    at16(starts, i) < at16(starts, i + 1)
+    at(starts, i) < at(starts, i + 1)
 }
 
 // The number is queued at a stage.
 fn queue_at(stage: Stage, v: u16, j32: &[u32], j16: &[u16], queue: &mut [u64])
     ensures { queue.new ≡ set_word v (key_in (lists_in (slices [] j32.now j16.now [] [])) v stage + 1) queue.old }
 {
-    let hints = has_hints(from16(j16, HINT_STARTS), v);
-    let size = at32(from32(j32, SIZES), v as usize);
+    let hints = has_hints(from(j16, HINT_STARTS), v);
+    let size = at(from(j32, SIZES), v as usize);
     enqueue(queue, v, hints, size, stage);
 }
 
@@ -48,7 +48,8 @@ pub fn take_back(
 {
     let own = tos_of(v, j32, j16);
     let units = at(j64, reg as usize);
-    evict(ends, rests, from(j64, USES), v, units, own);
+    // it is not refused where the number holds the register, and of any other nothing is promised
+    let _ = evict(ends, rests, from(j64, USES), v, units, own);
     queue_at(Stage::Evict, v, j32, j16, queue);
 }
 
@@ -56,7 +57,7 @@ pub fn take_back(
 fn last_word(reg: u8) -> u8
     ensures { reg < 255 → result ≡ reg + 1 }
 {
-    if reg < 255 { reg + 1 } else { 0 }
+    reg.wrapping_add(1)
 }
 
 // The number takes the register: its segments go into the table, it leaves the queue, and the register is the last one of its set.
@@ -76,26 +77,34 @@ pub fn take(
     let froms = froms_of(v, j32, j16);
     let tos = tos_of(v, j32, j16);
     let units = at(j64, reg as usize);
-    assign(ends, rests, from(j64, USES), v, units, froms, tos);
+    // it is not refused where the register is clear, and of any other nothing is promised
+    let _ = assign(ends, rests, from(j64, USES), v, units, froms, tos);
     remove(queue, v);
-    let set = at16(from16(j16, SETS), v as usize);
-    put8(last, set as usize, last_word(reg));
+    let set = at(from(j16, SETS), v as usize);
+    put(last, set as usize, last_word(reg));
 }
 
 // A number that takes no register is left over, is queued at stage Split, or leaves the queue.
-pub fn pass_by(fate: Fate, v: u16, j32: &[u32], j16: &[u16], queue: &mut [u64], words: &mut [u64])
-    ensures { PassedBy fate v (key_in (lists_in (slices [] j32.now j16.now [] [])) v Split) queue.old words.old queue.new words.new }
+pub fn pass_by(
+    decided: &Decided,
+    v: u16,
+    j32: &[u32],
+    j16: &[u16],
+    queue: &mut [u64],
+    words: &mut [u64],
+)
+    ensures { PassedBy decided.now v (key_in (lists_in (slices [] j32.now j16.now [] [])) v Split) queue.old words.old queue.new words.new }
 {
-    match fate {
-        Fate::Leaves => {
+    match decided {
+        Decided::Leaves => {
             remove(queue, v); // left over
             put(words, v as usize, word_of(Assignment::Dead));
         }
-        Fate::Splits => queue_at(Stage::Split, v, j32, j16, queue),
-        Fate::Fails => {
+        Decided::Splits => queue_at(Stage::Split, v, j32, j16, queue),
+        Decided::Fails => {
             remove(queue, v); // too many
         }
-        Fate::Takes => {}
-        Fate::Evicts => {}
+        Decided::Takes(_) => {}
+        Decided::Evicts { .. } => {}
     }
 }

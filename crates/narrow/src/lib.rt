@@ -2,33 +2,49 @@
 // that is a number has the bits 0xFFFFFFFF.
 #![tactic(auto)]
 
-ghost use Rattle.std.specs.Prelude.{◌≡◌};
+ghost use Rattle.std.specs.Prelude.{◌≡◌, ℕ};
 ghost use Rattle.narrow.specs.Cut.{cut};
 
-// The number, or the greatest of 8 bits where it is above it.
-#[tactic(auto, unfolding(crate::specs::Cut::cut))]
-pub fn cut8(n: u64) -> u8
-    ensures { result ≡ cut 0xFF n }
-{
-    if n < 0xFF { n as u8 } else { 0xFF }
+// A type of numbers that are narrower than 64 bits.
+pub trait Narrow {
+    ghost greatest: { ℕ };
+
+    ghost number: { Self → ℕ };
+
+    // The number, or the greatest of the type where it does not fit.
+    fn cut(n: u64) -> Self
+        ensures { number result ≡ cut greatest n };
 }
 
-// The same of 16 bits.
-#[tactic(auto, unfolding(crate::specs::Cut::cut))]
-pub fn cut16(n: u64) -> u16
-    ensures { result ≡ cut 0xFFFF n }
-{
-    if n < 0xFFFF { n as u16 } else { 0xFFFF }
+impl Narrow for u8 {
+    ghost greatest = { 0xFF };
+
+    ghost number = { λ n. n };
+
+    #[tactic(auto, unfolding(crate::specs::Cut::cut))]
+    fn cut(n: u64) -> u8 {
+        u8::try_from(n).unwrap_or(u8::MAX)
+    }
 }
 
-// The same of 32 bits.
-#[tactic(auto, unfolding(crate::specs::Cut::cut))]
-pub fn cut32(n: u64) -> u32
-    ensures { result ≡ cut 0xFFFF_FFFF n }
-{
-    if n < 0xFFFF_FFFF {
-        n as u32
-    } else {
-        0xFFFF_FFFF
+impl Narrow for u16 {
+    ghost greatest = { 0xFFFF };
+
+    ghost number = { λ n. n };
+
+    #[tactic(auto, unfolding(crate::specs::Cut::cut))]
+    fn cut(n: u64) -> u16 {
+        u16::try_from(n).unwrap_or(u16::MAX)
+    }
+}
+
+impl Narrow for u32 {
+    ghost greatest = { 0xFFFF_FFFF };
+
+    ghost number = { λ n. n };
+
+    #[tactic(auto, unfolding(crate::specs::Cut::cut))]
+    fn cut(n: u64) -> u32 {
+        u32::try_from(n).unwrap_or(u32::MAX)
     }
 }

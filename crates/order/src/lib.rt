@@ -2,20 +2,16 @@
 // then its class. The hinted ones stand in two slices that the caller lends for it, 65 long each, so that none is ever copied.
 #![tactic(auto)]
 
-ghost use Rattle.std.specs.Prelude.{◌≡◌, ℕ, ◌+◌, ◌≤◌, ◌<◌, min, ◌||◌, List, eqb, length, take};
+ghost use Rattle.std.specs.Prelude.{◌≡◌, ℕ, ◌+◌, ◌≤◌, ◌<◌, ◌||◌, List, eqb, length, take};
+ghost use Rattle.std.specs.List.{position};
+ghost use Rattle.std.specs.Float.Ieee.{lt};
 ghost use Rattle.reg_matrix.specs.Lists.{bit, has};
 ghost use Rattle.allocator.specs.declared.CandidateReg.{CandidateReg};
 ghost use Rattle.allocator.specs.Order.{add_hint, or_last, highest_preference};
-ghost use Rattle.order.specs.OrderWalk.{hints_of, zipped, listed, reg_place, weight_place, moved, last_of, sorted, merged, hinted_of, Marked, Computed, offer_at};
+ghost use Rattle.order.specs.OrderWalk.{hints_of, zipped, listed, moved, last_of, sorted, merged, hinted_of, Marked, Computed, offer_at};
 
 use allocator::CandidateReg;
-
-// The register last given to a member of a set, if there is one.
-#[derive(Clone, Copy)]
-pub enum Last {
-    Reg(u8),
-    NoReg,
-}
+use lent::{at, put};
 
 // How many hinted candidates there are, and in bit r whether register r is one of them.
 #[derive(Clone, Copy)]
@@ -24,33 +20,20 @@ pub struct AllocationOrder {
     pub hinted: u64,
 }
 
-// What stands at a place of the order: a candidate, a register of the class that was hinted already, or nothing more.
-#[derive(Clone, Copy)]
+// What stands at a place of the order: a candidate, a register of the class that was hinted already, or nothing more. An `Option` of an `Option` would
+// say of the last two only which `None` it is.
+#[derive(Clone, Copy, PartialEq, Debug)]
 pub enum Offer {
     Reg(CandidateReg),
     Skip,
     End,
 }
 
-fn fewer(a: usize, b: usize) -> usize
-    ensures { result ≡ min a b }
+// Where a register stands among the first n.
+fn find_reg(regs: &[u8], n: usize, reg: u8) -> Option<usize>
+    ensures { result ≡ position (λ x. eqb x reg) (take n regs.now) }
 {
-    if a < b { a } else { b }
-}
-
-// Where a register stands among the first n, or how many there are.
-fn find_reg(regs: &[u8], n: usize, reg: u8) -> usize
-    ensures { result ≡ reg_place reg (take n regs.now) }
-{
-    let m = fewer(n, regs.len());
-    let mut i = 0;
-    while i < m {
-        if lent::at8(regs, i) == reg {
-            return i;
-        }
-        i += 1;
-    }
-    i
+    regs.iter().take(n).position(|r| *r == reg)
 }
 
 // Adds a hint's weight to that of its register, from 0 where it is new.
@@ -58,21 +41,20 @@ fn add_hint(regs: &mut [u8], weights: &mut [f32], n: usize, reg: u8, weight: f32
     requires { (n < length regs.old) × (n < length weights.old) }
     ensures { (result ≤ n + 1) × (listed regs.new weights.new result ≡ add_hint (listed regs.old weights.old n) (record { reg = reg; weight = weight })) }
 {
-    let at = find_reg(regs, n, reg);
-    if at < n {
-        let sum = lent::at_float(weights, at) + weight;
-        lent::put_float(weights, at, sum);
-        return n;
-    }
-    lent::put8(regs, n, reg);
-    lent::put_float(weights, n, 0.0 + weight);
-    n + 1
+    let Some(i) = find_reg(regs, n, reg) else {
+        put(regs, n, reg);
+        put(weights, n, 0.0 + weight);
+        return n + 1;
+    };
+    let sum = at(weights, i) + weight;
+    put(weights, i, sum);
+    n
 }
 
 fn hint_count(regs: &[u8], weights: &[f32]) -> usize
     ensures { result ≡ length (hints_of regs.now weights.now) }
 {
-    fewer(64, fewer(regs.len(), weights.len()))
+    regs.len().min(weights.len()).min(64)
 }
 
 // The candidates of the hints in the order of their first arrival.
@@ -80,53 +62,34 @@ fn merge(hint_regs: &[u8], hint_weights: &[f32], regs: &mut [u8], weights: &mut 
     requires { (65 ≤ length regs.old) × (65 ≤ length weights.old) }
     ensures { (result ≤ 64) × (listed regs.new weights.new result ≡ merged (hints_of hint_regs.now hint_weights.now)) }
 {
-    let m = hint_count(hint_regs, hint_weights);
     let mut n = 0;
-    let mut i = 0;
-    while i < m {
-        n = add_hint(
-            regs,
-            weights,
-            n,
-            lent::at8(hint_regs, i),
-            lent::at_float(hint_weights, i),
-        );
-        i += 1;
+    for i in 0..hint_count(hint_regs, hint_weights) {
+        n = add_hint(regs, weights, n, at(hint_regs, i), at(hint_weights, i));
     }
     n
 }
 
-// How many of the first n lead that are not lighter.
-fn place_of(weights: &[f32], n: usize, weight: f32) -> usize
-    requires { n ≤ length weights.now }
-    ensures { result ≡ weight_place weight (take n weights.now) }
+// Where the first n have the first lighter one.
+fn find_lighter(weights: &[f32], n: usize, weight: f32) -> Option<usize>
+    ensures { result ≡ position (λ x. lt x weight) (take n weights.now) }
 {
-    let mut i = 0;
-    while i < n {
-        if lent::at_float(weights, i) < weight {
-            return i;
-        }
-        i += 1;
-    }
-    i
+    weights.iter().take(n).position(|w| *w < weight)
 }
 
-// Moves the candidate at place n down to the place `at`, and those from there on one up.
-fn move_to(regs: &mut [u8], weights: &mut [f32], at: usize, n: usize)
-    requires { (at ≤ n) × (n < length regs.old) × (n < length weights.old) }
-    ensures { zipped regs.new weights.new ≡ moved at n (zipped regs.old weights.old) }
+// Moves the candidate at place n down to the place `to`, and those from there on one up.
+fn move_to(regs: &mut [u8], weights: &mut [f32], to: usize, n: usize)
+    requires { (to ≤ n) × (n < length regs.old) × (n < length weights.old) }
+    ensures { zipped regs.new weights.new ≡ moved to n (zipped regs.old weights.old) }
 {
-    let mut reg = lent::at8(regs, n);
-    let mut weight = lent::at_float(weights, n);
-    let mut i = at;
-    while i <= n {
-        let r = lent::at8(regs, i);
-        let w = lent::at_float(weights, i);
-        lent::put8(regs, i, reg);
-        lent::put_float(weights, i, weight);
+    let mut reg = at(regs, n);
+    let mut weight = at(weights, n);
+    for i in to..n + 1 {
+        let r = at(regs, i);
+        let w = at(weights, i);
+        put(regs, i, reg);
+        put(weights, i, weight);
         reg = r;
         weight = w;
-        i += 1;
     }
 }
 
@@ -135,11 +98,9 @@ fn sort(regs: &mut [u8], weights: &mut [f32], n: usize)
     requires { (n ≤ length regs.old) × (n ≤ length weights.old) }
     ensures { listed regs.new weights.new n ≡ sorted (listed regs.old weights.old n) }
 {
-    let mut k = 0;
-    while k < n {
-        let at = place_of(weights, k, lent::at_float(weights, k));
-        move_to(regs, weights, at, k);
-        k += 1;
+    for k in 0..n {
+        let to = find_lighter(weights, k, at(weights, k)).unwrap_or(k);
+        move_to(regs, weights, to, k);
     }
 }
 
@@ -147,49 +108,42 @@ fn sort(regs: &mut [u8], weights: &mut [f32], n: usize)
 pub fn has_reg(regs: &[u8], n: usize, reg: u8) -> bool
     ensures { result ≡ has reg (take n regs.now) }
 {
-    find_reg(regs, n, reg) < fewer(n, regs.len())
+    find_reg(regs, n, reg).is_some()
 }
 
 // The register last given to the set, with weight 0, after n candidates, if it is not there.
-fn add_last(regs: &mut [u8], weights: &mut [f32], n: usize, last: Last) -> usize
+fn add_last(regs: &mut [u8], weights: &mut [f32], n: usize, last: Option<u8>) -> usize
     requires { (n < length regs.old) × (n < length weights.old) }
     ensures { (result ≤ n + 1) × (listed regs.new weights.new result ≡ or_last (listed regs.old weights.old n) (last_of last)) }
 {
-    match last {
-        Last::NoReg => n,
-        Last::Reg(reg) => {
-            if has_reg(regs, n, reg) {
-                return n;
-            }
-            lent::put8(regs, n, reg);
-            lent::put_float(weights, n, 0.0);
-            n + 1
-        }
+    let Some(reg) = last else {
+        return n;
+    };
+    if has_reg(regs, n, reg) {
+        return n;
     }
-}
-
-fn wide(x: u8) -> u64
-    ensures { result ≡ x }
-{
-    x as u64
+    put(regs, n, reg);
+    put(weights, n, 0.0);
+    n + 1
 }
 
 // Sets the bit of a register. One above 63 has none.
 fn mark(hinted: u64, reg: u8) -> u64
     ensures { (k : ℕ) → k < 64 → bit k result ≡ (eqb k reg || bit k hinted) }
 {
-    let r = wide(reg);
-    if r < 64 { hinted | (1 << r) } else { hinted }
+    if reg < 64 {
+        hinted | (1 << reg)
+    } else {
+        hinted
+    }
 }
 
 fn marks(regs: &[u8], n: usize) -> u64
     ensures { Marked result (take n regs.now) }
 {
     let mut hinted = 0;
-    let mut i = fewer(n, regs.len());
-    while 0 < i {
-        i -= 1;
-        hinted = mark(hinted, lent::at8(regs, i));
+    for i in (0..n.min(regs.len())).rev() {
+        hinted = mark(hinted, at(regs, i));
     }
     hinted
 }
@@ -199,13 +153,13 @@ fn marks(regs: &[u8], n: usize) -> u64
 pub fn compute(
     hint_regs: &[u8],
     hint_weights: &[f32],
-    last: Last,
+    last: Option<u8>,
     regs: &mut [u8],
     weights: &mut [f32],
 ) -> AllocationOrder
     ensures { 65 ≤ length regs.old → 65 ≤ length weights.old → Computed result regs.new weights.new (hinted_of (hints_of hint_regs.now hint_weights.now) (last_of last)) }
 {
-    if fewer(regs.len(), weights.len()) < 65 {
+    if regs.len().min(weights.len()) < 65 {
         return AllocationOrder {
             count: 0,
             hinted: 0,
@@ -221,9 +175,8 @@ pub fn compute(
 fn is_hinted(order: AllocationOrder, regs: &[u8], reg: u8) -> bool
     ensures { Marked order.hinted (take order.count regs.now) → result ≡ has reg (take order.count regs.now) }
 {
-    let r = wide(reg);
-    if r < 64 {
-        return (order.hinted >> r) % 2 == 1;
+    if reg < 64 {
+        return (order.hinted >> reg) % 2 == 1;
     }
     has_reg(regs, order.count, reg)
 }
@@ -241,14 +194,14 @@ pub fn candidate(
     let n = order.count;
     if i < n {
         return Offer::Reg(CandidateReg {
-            reg: lent::at8(regs, i),
-            preference_weight: lent::at_float(weights, i),
+            reg: at(regs, i),
+            preference_weight: at(weights, i),
         });
     }
     if class.len() <= i - n {
         return Offer::End;
     }
-    let reg = lent::at8(class, i - n);
+    let reg = at(class, i - n);
     if is_hinted(order, regs, reg) {
         return Offer::Skip;
     }
@@ -265,5 +218,5 @@ pub fn highest_preference(order: AllocationOrder, weights: &[f32]) -> f32
     if order.count == 0 {
         return 0.0;
     }
-    lent::at_float(weights, 0)
+    at(weights, 0)
 }

@@ -16,8 +16,7 @@ use Rattle.job.specs.Model.{Job}
 use Rattle.job.specs.Load.{Bytes, Loaded, not_loaded, loaded}
 use Rattle.job.specs.Layout.{JobSlices, probe_of, header_of}
 use Rattle.job.specs.declared.JobHeader.{JobHeader}
-use Rattle.job.specs.declared.Probe.{Probe}
-use Rattle.job.specs.declared.Probe.TheVariants.{Over, NoProbe}
+use Rattle.std.specs.Prelude.{Option as Maybe, Some, None}
 use Rattle.job.proofs.Premises.{GoodProbe, Premises}
 use Rattle.allocator.specs.declared.Assignment.{Assignment}
 use Rattle.allocator.specs.declared.Assignment.TheVariants.{Unassigned, Dead}
@@ -25,7 +24,7 @@ use Rattle.allocator.specs.State.{fresh_state}
 use Rattle.allocator.specs.Layout.{StateBuffers}
 use Rattle.allocator.specs.Calls.{load}
 use Rattle.allocator.proofs.Good.{good_reached, reached_fresh}
-use Rattle.loader.specs.declared.load.JobLoaded.TheVariants.{Is}
+use Rattle.std.specs.Prelude.{Ok}
 use Rattle.calls.specs.Calling.{sizes_of, StateStands}
 use Rattle.stage_loader.specs.StageLoading.{StageLoadParts, StageLoadDone}
 use Rattle.records.specs.Fields.{first_records}
@@ -41,12 +40,12 @@ use Rattle.pezhkadu.proofs.RefusalNumbers.{not_zero}
 -- ---- the header
 
 -- the points of a probe range are small
-abbrev SmallProbe : Probe → Type 0
-SmallProbe NoProbe = Unit {0}
-SmallProbe (Over a b) = (a < 2 ^ 32) × (b < 2 ^ 32)
+abbrev SmallProbe : Maybe (ℕ × ℕ) → Type 0
+SmallProbe None = Unit {0}
+SmallProbe (Some (a, b)) = (a < 2 ^ 32) × (b < 2 ^ 32)
 
 header_back :
-    (a b c d : ℕ) (p : Probe) (t : List ℕ)
+    (a b c d : ℕ) (p : Maybe (ℕ × ℕ)) (t : List ℕ)
     → a < 2 ^ 8
     → b < 2 ^ 8
     → c < 2 ^ 16
@@ -55,8 +54,8 @@ header_back :
     → header_in (header_words (record { regs = a; classes = b; virt_regs = c; probe = p; budget = d }) ++ t)
     ≡ record { regs = a; classes = b; virt_regs = c; probe = p; budget = d }
 unfolding header_in header_words probe_in
-header_back a b c d NoProbe t ha hb hc hd hp = rw (mod-eq_of_lt ha, mod-eq_of_lt hb, mod-eq_of_lt hc, mod-eq_of_lt hd) refl
-header_back a b c d (Over x y) t ha hb hc hd hp =
+header_back a b c d None t ha hb hc hd hp = rw (mod-eq_of_lt ha, mod-eq_of_lt hb, mod-eq_of_lt hc, mod-eq_of_lt hd) refl
+header_back a b c d (Some (x, y)) t ha hb hc hd hp =
     rw (mod-eq_of_lt ha, mod-eq_of_lt hb, mod-eq_of_lt hc, mod-eq_of_lt hd, mod-eq_of_lt hp.0, mod-eq_of_lt hp.1) refl
 
 small_probe : (o : Option ValueSegment) → GoodProbe o → SmallProbe (probe_of o)
@@ -67,9 +66,9 @@ header_length : (h : JobHeader) → length (header_words h) ≡ 8
 unfolding header_words
 header_length h = go h.probe
   where
-    go : (p : Probe) → length (h.regs ∷ h.classes ∷ h.virt_regs ∷ h.budget ∷ (probe_words p ++ (0 ∷ []))) ≡ 8
-    go NoProbe = refl
-    go (Over a b) = refl
+    go : (p : Maybe (ℕ × ℕ)) → length (h.regs ∷ h.classes ∷ h.virt_regs ∷ h.budget ∷ (probe_words p ++ (0 ∷ []))) ≡ 8
+    go None = refl
+    go (Some (a, b)) = refl
 
 stored_header_back : (j : Job) → Premises j → (head : List ℕ) → 8 ≤ length head → header_in (sets head 0 (header_words (header_of j))) ≡ header_of j
 unfolding header_of
@@ -121,7 +120,7 @@ loaded_stands bytes head ws B S head' ws' B' S' n are_bytes long j q d =
     let l = long_both head ws long in
     let e = ap (λ (b : Bool). cond b (not_loaded 15) (load (sizes_of B S) bytes)) long ∙ q in
     let p = subst (LoadParts head ws B S head' ws' B' S' n) e d.parts in
-    let done : StageLoadDone bytes B S B' S' (Is (header_of j)) = record { parts = subst (StageLoadParts B S B' S' (Is (header_of j))) (sym q) (refl, p.3, p.4) } in
+    let done : StageLoadDone bytes B S B' S' (Ok (header_of j)) = record { parts = subst (StageLoadParts B S B' S' (Ok (header_of j))) (sym q) (refl, p.3, p.4) } in
     let c = just_loaded bytes B S B' S' (header_of j) are_bytes done in
     let j' = c.0 in
     let reach = reached_fresh c.1.lent c.1.bytes j' c.1.are_bytes c.1.loads in

@@ -14,16 +14,6 @@ use Rattle.stage_loader.specs.StageLoading.{later_state, later_job}
 use Rattle.records.specs.Fields.{first_records}
 use Rattle.record_words.specs.Words.{record_word, records_in}
 use Rattle.words.specs.Words.{header_words, header_in, words_short}
-use Rattle.loader.specs.declared.load.JobLoaded.{JobLoaded}
-use Rattle.loader.specs.declared.load.JobLoaded.TheVariants.{Is, Refused}
-
-abbrev pub StoredParts : JobLoaded → List ℕ → List ℕ → List ℕ → List ℕ → ℕ → Type 0
-StoredParts (Refused m) head ws head' ws' n = (n ≡ m) × (head' ≡ head) × (ws' ≡ ws)
-StoredParts (Is h) head ws head' ws' n = (n ≡ 0) × (head' ≡ sets head 0 (header_words h)) × (ws' ≡ sets ws 0 (map record_word first_records))
-
--- what a load answered, as a number and in words: a refusal stores nothing
-pub record AnswerStored (r : JobLoaded) (head ws head' ws' : List ℕ) (n : ℕ) : Type 0 where
-  pub parts : StoredParts r head ws head' ws' n
 
 -- a refusal leaves all as it was; else the header, the first records, the job and the fresh state stand there, and the tail of every longer slice
 abbrev pub LoadParts : List ℕ → List ℕ → JobSlices → StateBuffers → List ℕ → List ℕ → JobSlices → StateBuffers → ℕ → Loaded → Type 0

@@ -1,6 +1,7 @@
 // Direct placements and evictions over a header and records that stand in lent words.
 ghost use Rattle.std.specs.Float.{binary32};
 ghost use Rattle.std.specs.Float.Ieee.{of_bits};
+ghost use Rattle.reg_matrix.specs.Refused.{number_in};
 ghost use Rattle.job.specs.Layout.{slices};
 ghost use Rattle.run_loop.specs.Running.{lent_state};
 ghost use Rattle.allocator.specs.Calls.{placing};
@@ -10,13 +11,14 @@ ghost use Rattle.pezhkadu.specs.Calling.{Called, EvictCalled};
 
 use calls::direct::{Eviction, Placement};
 use lent::put;
-use narrow::{cut8, cut16, cut32};
+use narrow::Narrow;
 use record_words::{put_record, record_at};
+use reg_matrix::Refusal;
 use words::header::{header_of, short_words};
 
-// Places the virtual register v in the register, with the weight of these binary32 bits. The answer is 0, or the number of the refusal, and then
-// nothing is changed: 15 where a slice is short, 8 where there is no such number or register or v may not have it, 9 where the weight is infinite, no
-// number or has the sign, 13 where v is not unassigned, 14 where the check reports anything.
+// Places the virtual register v in the register, with the weight of these binary32 bits. A refusal changes nothing: 15 where a slice is short, 8 where
+// there is no such number or register or v may not have it, 9 where the weight is infinite, no number or has the sign, 13 where v is not unassigned, 14
+// where the check reports anything.
 pub fn pezhkadu_assign(
     header: &[u64],
     records: &mut [u64],
@@ -32,29 +34,25 @@ pub fn pezhkadu_assign(
     rests: &mut [u64],
     queue: &mut [u64],
     last: &mut [u8],
-) -> u64
-    ensures { Called (words_short header.now records.old) header.now (slices j64.now j32.now j16.now j8.now jf.now) (placing (sizes_of (slices j64.now j32.now j16.now j8.now jf.now) (lent_state ends.old rests.old queue.old last.old)) v reg (of_bits binary32 weight)) (lent_state ends.old rests.old queue.old last.old) records.old (lent_state ends.new rests.new queue.new last.new) records.new result }
+) -> Result<(), Refusal>
+    ensures { Called (words_short header.now records.old) header.now (slices j64.now j32.now j16.now j8.now jf.now) (placing (sizes_of (slices j64.now j32.now j16.now j8.now jf.now) (lent_state ends.old rests.old queue.old last.old)) v reg (of_bits binary32 weight)) (lent_state ends.old rests.old queue.old last.old) records.old (lent_state ends.new rests.new queue.new last.new) records.new (number_in result) }
 {
     if short_words(header, records) {
-        return 15;
+        return Err(Refusal::ShortBuffer);
     }
-    let v = cut16(v);
-    let reg = cut8(reg);
-    let weight = cut32(weight);
+    let v = u16::cut(v);
+    let reg = u8::cut(reg);
+    let weight = u32::cut(weight);
     let asked = Placement { v, reg, weight };
     let known = header_of(header);
     let a = record_at(records, v);
-    let done = asked.place(a, known, j64, j32, j16, j8, jf, ends, rests, queue, last);
-    if done.refusal != 0 {
-        return done.refusal;
-    }
-    let after = done.record;
+    let after = asked.place(a, known, j64, j32, j16, j8, jf, ends, rests, queue, last)?;
     put_record(records, v, after);
-    0
+    Ok(())
 }
 
-// Evicts the virtual register v, and stores the register that it held in the answer's first word. The answer is 0, or the number of the refusal, and
-// then nothing is changed: 15 where a slice is short, 8 where there is no such number, 13 where v holds no register.
+// Evicts the virtual register v, and stores the register that it held in the answer's first word. A refusal changes nothing: 15 where a slice is
+// short, 8 where there is no such number, 13 where v holds no register.
 pub fn pezhkadu_evict(
     header: &[u64],
     records: &mut [u64],
@@ -69,25 +67,21 @@ pub fn pezhkadu_evict(
     queue: &mut [u64],
     last: &[u8],
     answer: &mut [u64],
-) -> u64
-    ensures { EvictCalled header.now (slices j64.now j32.now j16.now j8.now jf.now) v (lent_state ends.old rests.old queue.old last.now) records.old answer.old (lent_state ends.new rests.new queue.new last.now) records.new answer.new result }
+) -> Result<(), Refusal>
+    ensures { EvictCalled header.now (slices j64.now j32.now j16.now j8.now jf.now) v (lent_state ends.old rests.old queue.old last.now) records.old answer.old (lent_state ends.new rests.new queue.new last.now) records.new answer.new (number_in result) }
 {
     if short_words(header, records) {
-        return 15;
+        return Err(Refusal::ShortBuffer);
     }
     if answer.len() < 1 {
-        return 15;
+        return Err(Refusal::ShortBuffer);
     }
-    let v = cut16(v);
+    let v = u16::cut(v);
     let asked = Eviction { v };
     let known = header_of(header);
     let a = record_at(records, v);
-    let done = asked.evict(a, known, j64, j32, j16, j8, jf, ends, rests, queue, last);
-    if done.refusal != 0 {
-        return done.refusal;
-    }
-    let after = done.record;
+    let (after, reg) = asked.evict(a, known, j64, j32, j16, j8, jf, ends, rests, queue, last)?;
     put_record(records, v, after);
-    put(answer, 0, done.reg);
-    0
+    put(answer, 0, reg as u64);
+    Ok(())
 }

@@ -1,4 +1,5 @@
 // A run over records that stand in lent words, which it changes where they stand.
+ghost use Rattle.reg_matrix.specs.Refused.{number_in};
 ghost use Rattle.job.specs.Layout.{slices};
 ghost use Rattle.run_loop.specs.Running.{lent_state};
 ghost use Rattle.pezhkadu.specs.Calling.{RunCalled};
@@ -6,6 +7,7 @@ ghost use Rattle.pezhkadu.specs.Calling.{RunCalled};
 use call_tests::short_buffers;
 use lent::put;
 use record_words::renew;
+use reg_matrix::Refusal;
 use run_loop::{ending_number, run_on};
 
 // Runs with a budget of so many dequeues. The answer takes the number of the run's word, 1 for done, 2 for spent and 3 for toomany, and how many
@@ -23,23 +25,22 @@ pub fn pezhkadu_run(
     queue: &mut [u64],
     last: &mut [u8],
     answer: &mut [u64],
-) -> u64
-    ensures { RunCalled (slices j64.now j32.now j16.now j8.now jf.now) budget (lent_state ends.old rests.old queue.old last.old) records.old answer.old (lent_state ends.new rests.new queue.new last.new) records.new answer.new result }
+) -> Result<(), Refusal>
+    ensures { RunCalled (slices j64.now j32.now j16.now j8.now jf.now) budget (lent_state ends.old rests.old queue.old last.old) records.old answer.old (lent_state ends.new rests.new queue.new last.new) records.new answer.new (number_in result) }
 {
     if records.len() < 512 {
-        return 15;
+        return Err(Refusal::ShortBuffer);
     }
     if answer.len() < 2 {
-        return 15;
+        return Err(Refusal::ShortBuffer);
     }
     if short_buffers(j64, j32, j16, j8, jf, ends, rests, queue, last) {
-        return 15;
+        return Err(Refusal::ShortBuffer);
     }
     renew(records);
     let all = &mut records[..512];
     let end = run_on(budget, j64, j32, j16, j8, jf, ends, rests, queue, last, all);
-    let word = end.ending;
-    put(answer, 0, ending_number(word));
+    put(answer, 0, ending_number(end.ending));
     put(answer, 1, end.dequeues);
-    0
+    Ok(())
 }

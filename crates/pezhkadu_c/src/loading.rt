@@ -1,7 +1,9 @@
 // Loading a stage whose header and records stand in lent words.
 ghost use Rattle.job.specs.Layout.{slices};
 ghost use Rattle.run_loop.specs.Running.{lent_state};
-ghost use Rattle.pezhkadu.specs.Loading.{AnswerStored, LoadCalled};
+ghost use Rattle.pezhkadu.specs.Loading.{LoadCalled};
+
+use crate::number;
 
 // Loads the job of these bytes: its header and the records as they start out into words, the job, the table, the queue and the last registers into
 // the other slices. The answer is 0, or the number of the refusal, and then nothing is changed: 15 where a slice is short, then the job's length (4),
@@ -23,7 +25,7 @@ pub extern "C" fn pezhkadu_load(
 ) -> u64
     ensures { LoadCalled bytes.now header.old records.old (slices j64.old j32.old j16.old j8.old jf.old) (lent_state ends.old rests.old queue.old last.old) header.new records.new (slices j64.new j32.new j16.new j8.new jf.new) (lent_state ends.new rests.new queue.new last.new) result }
 {
-    pezhkadu::loading::pezhkadu_load(
+    number(pezhkadu::loading::pezhkadu_load(
         bytes, header, records, j64, j32, j16, j8, jf, ends, rests, queue, last,
-    )
+    ))
 }

@@ -3,13 +3,19 @@ ghost use Rattle.std.specs.Prelude.{◌≡◌};
 ghost use Rattle.lines.specs.LineTexts.{lent};
 ghost use Rattle.results.specs.Reading.{standing_answer, LineCalled};
 
+use crate::number;
+
 // How the virtual register v stands: 0 it waits, 1 it is left over, 256 + r it holds the register r. Refused with 15 where a slice is short, with 8
 // where there is no such number.
+#[tactic(auto, unfolding(results::specs::Reading::standing_answer))]
 #[unsafe(no_mangle)]
 pub extern "C" fn pezhkadu_standing(header: &[u64], records: &[u64], v: u64) -> u64
     ensures { result ≡ standing_answer header.now records.now v }
 {
-    pezhkadu::reading::pezhkadu_standing(header, records, v)
+    match pezhkadu::reading::pezhkadu_standing(header, records, v) {
+        Ok(n) => n,
+        Err(r) => r.number(),
+    }
 }
 
 // Stores the line of the sheet at this position from the front of `line`, and its length and the position after it in `next`; past the last line the
@@ -29,7 +35,7 @@ pub extern "C" fn pezhkadu_sheet_line(
 ) -> u64
     ensures { LineCalled header.now records.now answer.now position (lent maps.now ends.now rests.now) line.old next.old line.new next.new result }
 {
-    pezhkadu::reading::pezhkadu_sheet_line(
+    number(pezhkadu::reading::pezhkadu_sheet_line(
         header, records, answer, position, maps, ends, rests, line, next,
-    )
+    ))
 }

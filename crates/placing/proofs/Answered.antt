@@ -2,7 +2,7 @@
 -- definition, with what is lent behind it unchanged. Assumes nothing.
 use Prim.Native.Nat.{ℕ, ◌+◌, ◌≤◌, ◌<◌}
 use native.Mathlib.Omega.{arith}
-use mathlib.Core.Path.{◌≡◌, sym, ap, ◌∙◌, subst}
+use mathlib.Core.Path.{◌≡◌, refl, sym, ap, ◌∙◌, subst}
 use mathlib.Core.Option.{Option, none}
 use mathlib.Core.List.{List, [], ◌++◌, map}
 use mathlib.Core.Bool.{Bool, false}
@@ -14,11 +14,12 @@ use Rattle.reg_matrix.specs.Check.{check}
 use Rattle.reg_matrix.specs.Assign.{assign, evict}
 use Rattle.reg_matrix.specs.Layout.{max_entries, max_fixed, greatest, end_word, rest_word, end_words, rest_words, use_word, use_words}
 use Rattle.entries.specs.Moves.{Words}
-use Rattle.entries.specs.Placing.{assigning, evicting, move_limits, move_refusal, moved, sizes, unless_refused, Assigned, Evicted}
+use Rattle.entries.specs.Placing.{assigning, evicting, move_limits, move_refusal, sizes, unless_refused, Assigned, Evicted}
 use Rattle.reg_matrix.specs.declared.ValueSegment.{ValueSegment}
 use Rattle.reg_matrix.specs.declared.Entry.{Entry}
-use Rattle.entries.specs.declared.Moved.{Moved}
-use Rattle.entries.specs.declared.Moved.TheVariants.{Done}
+use Rattle.std.specs.Prelude.{Result, Ok, Err}
+use Rattle.reg_matrix.specs.declared.Refusal.{Refusal}
+use Rattle.reg_matrix.specs.Refused.{refusal_in}
 use Rattle.reg_matrix.proofs.Places.{padded_length}
 use Rattle.reg_matrix.proofs.Cells.{Cell}
 use Rattle.reg_matrix.proofs.Chains.{Sound}
@@ -35,9 +36,14 @@ froms ss = map (λ s. s.from) ss
 abbrev tos : List ValueSegment → List ℕ
 tos ss = map (λ s. s.to) ss
 
+-- an answer without a refusal is that it is done
+not_refused : (r : Result (Unit {0}) Refusal) → refusal_in r ≡ none → r ≡ Ok tt
+not_refused (Ok a) q = refl
+not_refused (Err e) q = cc
+
 -- the answer is that it is done, and the table t stands in the slices afterwards
-pub record Carried (t : Table) (et rt : List ℕ) (w : Words) (r : Moved) : Type 0 where
-  pub done : r ≡ Done
+pub record Carried (t : Table) (et rt : List ℕ) (w : Words) (r : Result (Unit {0}) Refusal) : Type 0 where
+  pub done : r ≡ Ok tt
   pub stands : Stands t et rt w
 
 module _ (fixed : List Entry) (ut uses : List ℕ) (lie : UsesLie fixed ut uses) (et rt : List ℕ) (t : Table) (w : Words) (st : Stands t et rt w) where
@@ -57,7 +63,7 @@ module _ (fixed : List Entry) (ut uses : List ℕ) (lie : UsesLie fixed ut uses)
   unfolding move_refusal refusal
   accepted n v ts h k = rw (long_enough n ts h, lt-leb 512 v k)
 
-  module _ (sd : Sound fixed) (sf : AllSmall fixed) (v m : ℕ) (number : v < 512) (ss : List ValueSegment) (w' : Words) (r : Moved) where
+  module _ (sd : Sound fixed) (sf : AllSmall fixed) (v m : ℕ) (number : v < 512) (ss : List ValueSegment) (w' : Words) (r : Result (Unit {0}) Refusal) where
     -- what `assign` ensures, after a clear check
     pub assigned :
         Assigned v m uses (froms ss) (tos ss) w w' r
@@ -73,7 +79,7 @@ module _ (fixed : List Entry) (ut uses : List ℕ) (lie : UsesLie fixed ut uses)
     assigned a cs mx sc full g sp z room =
         let ok : move_refusal (sizes w uses (tos ss)) (length (froms ss)) v ≡ none = accepted (length (froms ss)) v (tos ss) (simp length-map (omega arith)) number in
         record {
-          done = a.answer ∙ ap moved ok;
+          done = not_refused r (a.answer ∙ ok);
           stands =
               subst (λ (x : Words). Stands (assign fixed v m ss t) et rt x)
               (sym (a.after ∙ ap (λ (o : Option ℕ). unless_refused o (assigning uses v m (froms ss) (tos ss) w) w) ok))
@@ -92,7 +98,7 @@ module _ (fixed : List Entry) (ut uses : List ℕ) (lie : UsesLie fixed ut uses)
     evicted a xs ys mx sc few room =
         let ok : move_refusal (sizes w uses (tos ss)) (length (tos ss)) v ≡ none = accepted (length (tos ss)) v (tos ss) (omega arith) number in
         record {
-          done = a.answer ∙ ap moved ok;
+          done = not_refused r (a.answer ∙ ok);
           stands =
               subst (λ (x : Words). Stands (evict fixed v m ss t) et rt x)
               (sym (a.after ∙ ap (λ (o : Option ℕ). unless_refused o (evicting uses v m (tos ss) w) w) ok))

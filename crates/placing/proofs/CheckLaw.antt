@@ -22,8 +22,7 @@ use Rattle.table_words.specs.Segments.{segments_in}
 use Rattle.matrix.specs.Walk.{Lent, entered, later_units, step_of, emit, remaining}
 use Rattle.reg_matrix.specs.declared.ValueSegment.{ValueSegment}
 use Rattle.reg_matrix.specs.declared.Entry.{Entry}
-use Rattle.reg_matrix.specs.declared.FixedIndex.{FixedIndex}
-use Rattle.reg_matrix.specs.declared.FixedIndex.TheVariants.{At, NoIndex}
+use Rattle.std.specs.Prelude.{Option, Some, None}
 use Rattle.reg_matrix.specs.declared.Reservation.{Reservation}
 use Rattle.reg_matrix.specs.declared.Reservation.TheVariants.{Held, FixedUse, FixedDef}
 use Rattle.reg_matrix.specs.declared.Interference.{Interference}
@@ -126,9 +125,9 @@ module _
     (a : length fixed ≤ max_fixed) (b : length fixed + length cs ≤ max_entries)
     (sf : AllSmall fixed) (sc : SmallCells cs) (sn : (c : Cell) → c ∈ cs → c.v + 2 < 2 ^ 16)
   where
-    small_index : (j : FixedIndex) → ((i : ℕ) → j ≡ At i → i < length fixed) → SmallIndex j
-    small_index NoIndex h = tt
-    small_index (At i) h = omega (arith, h i refl)
+    small_index : (j : Option ℕ) → ((i : ℕ) → j ≡ Some i → i < length fixed) → SmallIndex j
+    small_index None h = tt
+    small_index (Some i) h = omega (arith, h i refl)
 
     fixed_small : (r : Reservation) → ((v : ℕ) → T (held_by v r) → ⊥) → use_value r < 2 ^ 16 → SmallReservation r
     fixed_small FixedDef h k = tt

@@ -21,8 +21,7 @@ use Rattle.table_words.specs.Search.{place_of, below}
 use Rattle.entries.specs.Moves.{Words, inserting, removing}
 use Rattle.entries.specs.Placing.{inserting_use, inserting_uses, is_own, first_under, evicting_segment, unit_key}
 use Rattle.reg_matrix.specs.declared.Entry.{Entry}
-use Rattle.reg_matrix.specs.declared.FixedIndex.{FixedIndex}
-use Rattle.reg_matrix.specs.declared.FixedIndex.TheVariants.{At, NoIndex}
+use Rattle.std.specs.Prelude.{Option as Maybe, Some, None}
 use Rattle.reg_matrix.specs.declared.Reservation.{Reservation}
 use Rattle.reg_matrix.specs.declared.Reservation.TheVariants.{Held, FixedUse, FixedDef}
 use Rattle.reg_matrix.proofs.Members.{◌∈◌, filter_out, filter_none, drop_out, fixed_uses_out}
@@ -284,7 +283,7 @@ module _ (fixed : List Entry) (cs : List Cell) (t : Table) (c : Cell) (sd : Soun
   own : Entry
   own = entry_for fixed c
 
-  index : FixedIndex
+  index : Maybe ℕ
   index = fixed_index fixed c.u c.s fixed
 
   us : List Entry
@@ -342,9 +341,9 @@ module _ (fixed : List Entry) (cs : List Cell) (t : Table) (c : Cell) (sd : Soun
   unfolding index own entry_for
   index_small = go (fixed_index fixed c.u c.s fixed) refl
     where
-      go : (i : FixedIndex) → fixed_index fixed c.u c.s fixed ≡ i → index_word i ≤ 512
-      go NoIndex q = omega arith
-      go (At i) q = omega (arith, few, held_index_fixed fixed (c ∷ cs) t sd it own own_in c.v i (ap (Held c.v) q))
+      go : (i : Maybe ℕ) → fixed_index fixed c.u c.s fixed ≡ i → index_word i ≤ 512
+      go None q = omega arith
+      go (Some i) q = omega (arith, few, held_index_fixed fixed (c ∷ cs) t sd it own own_in c.v i (ap (Held c.v) q))
 
   module _ (sf : AllSmall fixed) (ut uses : List ℕ) (lie : UsesLie fixed ut uses) (et rt : List ℕ) (w : Words) (st : Stands t et rt w) where
     base : ℕ
@@ -387,7 +386,7 @@ module _ (fixed : List Entry) (cs : List Cell) (t : Table) (c : Cell) (sd : Soun
     index_there = rw rest_there (omega (arith, index_small))
 
     -- the uses put back are those under the entry
-    back_at : (i : ℕ) → index ≡ At i → (v : Words) → inserting_uses (last - first_under uses c.u (i + 1) last) (first_under uses c.u (i + 1) last) uses v ≡ inserting_all (uses_from us c.s (At i)) v
+    back_at : (i : ℕ) → index ≡ Some i → (v : Words) → inserting_uses (last - first_under uses c.u (i + 1) last) (first_under uses c.u (i + 1) last) uses v ≡ inserting_all (uses_from us c.s (Some i)) v
     unfolding first_under index own entry_for base last us
     back_at i q v =
         let z : eqb (i + 1) 0 ≡ false = ne_eqb (i + 1) 0 (λ e. omega arith) in
@@ -411,17 +410,17 @@ module _ (fixed : List Entry) (cs : List Cell) (t : Table) (c : Cell) (sd : Soun
     unfolding first_under back
     back_is v = go index refl
       where
-        go : (i : FixedIndex) → index ≡ i → inserting_uses (last - first_under uses c.u (index_word i) last) (first_under uses c.u (index_word i) last) uses v ≡ inserting_all (uses_from us c.s i) v
-        go NoIndex q = back_none v
-        go (At i) q = back_at i q v
+        go : (i : Maybe ℕ) → index ≡ i → inserting_uses (last - first_under uses c.u (index_word i) last) (first_under uses c.u (index_word i) last) uses v ≡ inserting_all (uses_from us c.s i) v
+        go None q = back_none v
+        go (Some i) q = back_at i q v
 
     back_small : SmallEnds back
     unfolding back us
     back_small e m = go index m
       where
-        go : (i : FixedIndex) → e ∈ uses_from us c.s i → SmallEnd e
-        go NoIndex n = elim n [ ]
-        go (At i) n =
+        go : (i : Maybe ℕ) → e ∈ uses_from us c.s i → SmallEnd e
+        go None n = elim n [ ]
+        go (Some i) n =
             let s = sf e (fixed_uses_out fixed c.u e (drop_out i us (filter_out (early c.s.to) (drop i us) n).1)).0 in
             record { unit = s.unit; to = s.to }
 

@@ -20,7 +20,7 @@ use Rattle.table_words.specs.Search.{place_of, below}
 use Rattle.entries.specs.Moves.{Words, removing_run}
 use Rattle.entries.specs.Placing.{index_part, held_word, assigning_segment}
 use Rattle.reg_matrix.specs.declared.Entry.{Entry}
-use Rattle.reg_matrix.specs.declared.FixedIndex.TheVariants.{At, NoIndex}
+use Rattle.std.specs.Prelude.{Some, None}
 use Rattle.reg_matrix.specs.declared.Reservation.TheVariants.{Held}
 use Rattle.reg_matrix.proofs.Tests.{never}
 use Rattle.reg_matrix.proofs.Members.{◌∈◌, filter_out}
@@ -168,7 +168,7 @@ module _ (fixed : List Entry) (cs : List Cell) (t : Table) (c : Cell) (sd : Soun
     unfolding index_part fixed_index
     index_same = rw (cut.some, uses_before_lem fixed sd sf ut uses lie c.u sc.unit c.s (omega (arith, sc.from))) (go cut.middle)
       where
-        go : (m : Table) → cond (ltb (length cut.front) (length cut.front + length m)) (first_use (fixed_uses fixed c.u) c.s + 1) 0 ≡ index_word (cond (not (is_nil m)) (At (first_use (fixed_uses fixed c.u) c.s)) NoIndex)
+        go : (m : Table) → cond (ltb (length cut.front) (length cut.front + length m)) (first_use (fixed_uses fixed c.u) c.s + 1) 0 ≡ index_word (cond (not (is_nil m)) (Some (first_use (fixed_uses fixed c.u) c.s)) None)
         go [] = rw (le-ltb (length cut.front) (length cut.front + 0) (omega arith))
         go (x ∷ m) = rw (lt-ltb (length cut.front) (length cut.front + suc (length m)) (omega arith))
 

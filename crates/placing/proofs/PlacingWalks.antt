@@ -1,5 +1,5 @@
 -- One step of the walks over segments and of the units of a map from its lowest bit. Assumes nothing.
-use Prim.Native.Nat.{ℕ, ◌+◌, ◌-◌, ◌%◌, ◌^◌, ◌≤◌, ◌<◌}
+use Prim.Native.Nat.{ℕ, ◌+◌, ◌%◌, ◌^◌, ◌≤◌, ◌<◌}
 use native.Mathlib.Numerals.{add-one}
 use native.Mathlib.Omega.{arith}
 use mathlib.Core.Path.{◌≡◌, ap, ◌∙◌}
@@ -11,7 +11,8 @@ use Rattle.reg_matrix.specs.Lists.{foldl}
 use Rattle.reg_matrix.specs.Table.{units_of}
 use Rattle.entries.specs.Moves.{Words}
 use Rattle.entries.specs.Placing.{assigning_segment, assigning_unit}
-use Rattle.matrix.proofs.UnitMaps.{first_unit, no_units}
+use Rattle.matrix.specs.Walk.{later_units}
+use Rattle.matrix.proofs.UnitMaps.{units_lowest, no_units}
 
 -- ---- segments
 
@@ -36,9 +37,9 @@ module _ (uses : List ℕ) (v u : ℕ) (froms tos : List ℕ) (i : ℕ) (w w' : 
 
 -- one unit of a walk over a map's units
 module _ {B : Type 0} (f : B → ℕ → B) (m : ℕ) (b b' : B) where
-  pub units_more : 0 < m → m < 2 ^ 64 → b' ≡ f b (count_trailing_zeros 64 m) → foldl f b' (units_of (m - 2 ^ count_trailing_zeros 64 m)) ≡ foldl f b (units_of m)
+  pub units_more : 0 < m → m < 2 ^ 64 → b' ≡ f b (count_trailing_zeros 64 m) → foldl f b' (units_of (later_units m)) ≡ foldl f b (units_of m)
   unfolding foldl
-  units_more h l q = rw (q, (first_unit m h l).others)
+  units_more h l q = rw (q, units_lowest m h l)
 
   pub units_end : m ≤ 0 → foldl f b (units_of m) ≡ b
   unfolding foldl

@@ -16,7 +16,7 @@ use Rattle.table_words.specs.Segments.{segment_at}
 use Rattle.matrix.specs.Walk.{Lent, entry_at, entry_step, use_step, leave_unit, unit_step, step_of}
 use Rattle.reg_matrix.specs.declared.ValueSegment.{ValueSegment}
 use Rattle.reg_matrix.specs.declared.Entry.{Entry}
-use Rattle.reg_matrix.specs.declared.FixedIndex.TheVariants.{At}
+use Rattle.std.specs.Prelude.{Some}
 use Rattle.reg_matrix.specs.declared.Reservation.TheVariants.{Held}
 use Rattle.matrix.specs.declared.Cursor.{Cursor}
 use Rattle.matrix.specs.declared.Move.TheVariants.{Ends}
@@ -40,7 +40,7 @@ pub record Walkable (fixed : List Entry) (t : Table) : Type 0 where
   pub small : (e : Entry) → e ∈ t → Small e
   pub nonempty : (e : Entry) → e ∈ t → e.from < e.to
   pub chain : (u : ℕ) → Chain (on_unit u t)
-  pub index : (e : Entry) → e ∈ t → (v i : ℕ) → e.reservation ≡ Held v (At i) → i ≤ length (fixed_uses fixed e.unit)
+  pub index : (e : Entry) → e ∈ t → (v i : ℕ) → e.reservation ≡ Held v (Some i) → i ≤ length (fixed_uses fixed e.unit)
   pub few_uses : length (all_uses fixed) ≤ max_fixed
   pub small_uses : (u : ℕ) (f : Entry) → f ∈ fixed_uses fixed u → SmallUse f
   pub use_chain : (u : ℕ) → Chain (fixed_uses fixed u)

@@ -17,7 +17,8 @@ use Rattle.reg_matrix.specs.Layout.{max_entries, max_fixed, greatest, end_word, 
 use Rattle.table_words.specs.Search.{place_of}
 use Rattle.entries.specs.Moves.{Words, words, inserting, inserted}
 use Rattle.entries.specs.Placing.{inserting_use, use_key}
-use Rattle.entries.specs.Reserving.{filled, inserting_word}
+use Rattle.lent.specs.Parts.{filled}
+use Rattle.entries.specs.Reserving.{inserting_word}
 use Rattle.reg_matrix.specs.declared.Entry.{Entry}
 use Rattle.reg_matrix.specs.declared.Reservation.{Reservation}
 use Rattle.reg_matrix.specs.declared.Reservation.TheVariants.{FixedDef}

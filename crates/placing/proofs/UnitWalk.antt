@@ -7,7 +7,7 @@ use mathlib.Core.Path.{◌≡◌, refl, sym, ap, ◌∙◌, subst}
 use mathlib.Core.Logic.{◌⊎◌, inl, inr}
 use mathlib.Core.List.Memᴰ
 use mathlib.Core.List.{List, [], ◌∷◌, ◌++◌, map, append_assoc}
-use mathlib.Core.Bool.{Bool, true, false, not, ◌&&◌, ◌||◌, cond, or-true}
+use mathlib.Core.Bool.{Bool, true, false, not, ◌&&◌, ◌||◌, cond, or-false, or-true}
 use lib.Dec.{ltb, eqb, eqb→eq}
 use lib.ListN.{length, drop, get_or, length-map, take-append-drop}
 use lib.Seq.{drop-nil}
@@ -22,7 +22,7 @@ use Rattle.table_words.specs.Segments.{segment_at, segments_from}
 use Rattle.matrix.specs.Walk.{Lent, entry_at, onward, under_entry, entered, meeting, entry_step, use_meeting, use_step, later_units, leave_unit, step_of, emit, remaining}
 use Rattle.reg_matrix.specs.declared.ValueSegment.{ValueSegment}
 use Rattle.reg_matrix.specs.declared.Entry.{Entry}
-use Rattle.reg_matrix.specs.declared.FixedIndex.TheVariants.{At, NoIndex}
+use Rattle.std.specs.Prelude.{Some, None}
 use Rattle.reg_matrix.specs.declared.Reservation.{Reservation}
 use Rattle.reg_matrix.specs.declared.Reservation.TheVariants.{Held, FixedUse, FixedDef}
 use Rattle.reg_matrix.specs.declared.Interference.{Interference}
@@ -35,7 +35,6 @@ use Rattle.reg_matrix.proofs.Sorted.{Before, Sorted, before→, below_out}
 use Rattle.reg_matrix.proofs.Chains.{Chain, chain_drop}
 use Rattle.reg_matrix.proofs.Whole.{Rising}
 use Rattle.table_words.proofs.Halves.{none_below, below_cons}
-use Rattle.table_words.proofs.RangeLaws.{or_none}
 use Rattle.matrix.proofs.Walks.{remaining_step}
 use Rattle.matrix.proofs.Passing.{ahead, behind, meets, counts_same, counts_stay, counts_once, check_end, check_empty, pass_entry, pass_segment, pass_stay, pass_on}
 use Rattle.table_words.proofs.UseWords.{uses_at, back_other}
@@ -261,11 +260,11 @@ module _ (fixed : List Entry) (t : Table) (W : Lent) (L : Holds fixed t W) (P : 
     -- the reports of an overlap
     met :
         (r : Reservation)
-        → ((v i : ℕ) → r ≡ Held v (At i) → i ≤ length (fixed_uses fixed x.unit))
+        → ((v i : ℕ) → r ≡ Held v (Some i) → i ≤ length (fixed_uses fixed x.unit))
         → emit (meeting W.uses (at n e) x (seg n) r) (λ d. remaining W d)
         ≡ reports_of uses n (seg n) x r ++ remaining W (onward (full || indexed r) (at n e) x (seg n))
     unfolding meeting reports_of at
-    met FixedDef h = rw (or_none full)
+    met FixedDef h = rw (or-false full)
     met (FixedUse y) h =
         cond_own (eqb y (seg n).value)
       where
@@ -273,10 +272,10 @@ module _ (fixed : List Entry) (t : Table) (W : Lent) (L : Holds fixed t W) (P : 
             (k : Bool)
             → emit (cond k (Goes (onward full (at n e) x (seg n))) (Meets (shared_part n (seg n) x Fixed) (onward full (at n e) x (seg n)))) (λ d. remaining W d)
             ≡ cond k [] (shared_part n (seg n) x Fixed ∷ []) ++ remaining W (onward (full || false) (at n e) x (seg n))
-        cond_own true = rw (or_none full)
-        cond_own false = rw (or_none full)
-    met (Held v NoIndex) h = rw (or_none full)
-    met (Held v (At i)) h =
+        cond_own true = rw (or-false full)
+        cond_own false = rw (or-false full)
+    met (Held v None) h = rw (or-false full)
+    met (Held v (Some i)) h =
         ap (λ l. shared_part n (seg n) x (VirtReg v) ∷ l)
         (underneath i (h v i refl) ∙ ap (λ k. uses_under uses n (seg n) i ++ remaining W (onward k (at n e) x (seg n))) (sym (or-true full)))
 

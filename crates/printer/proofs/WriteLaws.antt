@@ -14,13 +14,10 @@ use Rattle.job.specs.Layout.{JobSlices}
 use Rattle.allocator.specs.Layout.{StateBuffers}
 use Rattle.allocator.specs.Sheet.{printed}
 use Rattle.listing.specs.declared.Listing.{Listing}
-use Rattle.listing.specs.declared.Step.{Step}
-use Rattle.listing.specs.declared.Step.TheVariants.{Line, End as NoMore}
+use Rattle.std.specs.Prelude.{Option, Some, None, Result, Ok, Err}
 use Rattle.listing.specs.Walk.{line_limit}
 use Rattle.texts.specs.Texts.{Stored}
 use Rattle.lines.specs.LineTexts.{Lent}
-use Rattle.sheets.specs.declared.Printing.{Printing}
-use Rattle.sheets.specs.declared.Printing.TheVariants.{Refused, At}
 use Rattle.sheets.specs.Printing.{sheet_limits, sheet_sizes, lines_lent, shown, Begun, NextLine}
 use Rattle.sheets.proofs.CountLaws.{refused_part, Counted, count_end, line_size, count_room, count_more}
 use Rattle.printer.specs.declared.Written.{Written}
@@ -39,12 +36,12 @@ module _ (l : Lent) (words : List ℕ) (c₀ c : Listing) (n : ℕ) (so : Counte
   pub lines_short : WrittenOf (lines_size c₀ l words) (record { whole = false; bytes = n })
   lines_short = part_written (omega (arith, so.whole))
 
-  module _ (s t : List ℕ) (long : line_limit ≤ length s) (same : length t ≡ length s) (r : Step) (d : NextLine c l words s t r) where
-    pub lines_end : r ≡ NoMore → WrittenOf (lines_size c₀ l words) (record { whole = true; bytes = n })
+  module _ (s t : List ℕ) (long : line_limit ≤ length s) (same : length t ≡ length s) (r : Result (Option (ℕ × Listing)) ℕ) (d : NextLine c l words s t r) where
+    pub lines_end : r ≡ Ok None → WrittenOf (lines_size c₀ l words) (record { whole = true; bytes = n })
     lines_end told = all_written (count_end l words c₀ c n so s t long same r d told)
 
     -- the next line has k bytes
-    module _ (k : ℕ) (after : Listing) (told : r ≡ Line k after) (w : Written) (u : WrittenOf (length (part 0 k t)) w) where
+    module _ (k : ℕ) (after : Listing) (told : r ≡ Ok (Some (k, after))) (w : Written) (u : WrittenOf (length (part 0 k t)) w) where
       pub line_room : n + w.bytes < 4294967296
       line_room = omega (arith, u.never_more, line_size l words c₀ c n so s t long same r d k after told, count_room l words c₀ c n so s t long same r d k after told)
 
@@ -55,11 +52,11 @@ module _ (l : Lent) (words : List ℕ) (c₀ c : Listing) (n : ℕ) (so : Counte
 
 -- ---- what is to be printed
 
-module _ (p : Printing) (l : Lent) (words : List ℕ) (w : Written) where
+module _ (p : Result Listing ℕ) (l : Lent) (words : List ℕ) (w : Written) where
   -- a refusal's line, in a lent line
   pub refusal_written :
       (m : ℕ)
-      → p ≡ Refused m
+      → p ≡ Err m
       → (s t : List ℕ) (k : ℕ)
       → line_limit ≤ length s
       → Stored s 0 (refused_line m) t k
@@ -68,16 +65,16 @@ module _ (p : Printing) (l : Lent) (words : List ℕ) (w : Written) where
   unfolding shown
   refusal_written m told s t k long stored =
       let e : part 0 k t ≡ refused_line m = refused_part m s t k long stored in
-      subst (λ (x : List ℕ). WrittenOf (length x) w) (e ∙ sym (ap (λ (x : Printing). shown x l words) told))
+      subst (λ (x : List ℕ). WrittenOf (length x) w) (e ∙ sym (ap (λ (x : Result Listing ℕ). shown x l words) told))
 
-  pub lines_written : (c : Listing) → p ≡ At c → WrittenOf (lines_size c l words) w → WrittenOf (length (shown p l words)) w
+  pub lines_written : (c : Listing) → p ≡ Ok c → WrittenOf (lines_size c l words) w → WrittenOf (length (shown p l words)) w
   unfolding shown
-  lines_written c told = subst (λ (x : List ℕ). WrittenOf (length x) w) (sym (ap (λ (x : Printing). shown x l words) told))
+  lines_written c told = subst (λ (x : List ℕ). WrittenOf (length x) w) (sym (ap (λ (x : Result Listing ℕ). shown x l words) told))
 
 -- ---- the whole, of any bytes, with no short buffer
 
 pub sheet_written :
-    (bytes : List ℕ) (B : JobSlices) (S : StateBuffers) (W : List ℕ) (B' : JobSlices) (S' : StateBuffers) (W' : List ℕ) (r : Printing)
+    (bytes : List ℕ) (B : JobSlices) (S : StateBuffers) (W : List ℕ) (B' : JobSlices) (S' : StateBuffers) (W' : List ℕ) (r : Result Listing ℕ)
     → Begun bytes B S W B' S' W' r
     → short_buffer sheet_limits (sheet_sizes B S W) ≡ false
     → (w : Written)

@@ -3,6 +3,7 @@
 
 ghost use Rattle.std.specs.Prelude.{◌≤◌, length};
 ghost use Rattle.lent.specs.Parts.{part};
+ghost use Rattle.reg_matrix.specs.Refused.{numbered};
 ghost use Rattle.allocator.specs.Sheet.{printed};
 ghost use Rattle.lines.specs.LineTexts.{lent};
 ghost use Rattle.sheets.specs.Printing.{shown};
@@ -10,24 +11,25 @@ ghost use Rattle.printer.specs.Writing.{WrittenOf, lines_size};
 
 use io::write_all;
 use job_sheet::begin;
-use lent::part8;
+use lent::part;
+use listing::Listing;
 use listing::sheet::refused;
-use listing::{Listing, Step};
-use sheets::Printing;
+use reg_matrix::Refusal;
 use sheets::sheet::next;
 
-// What was written: whether all of it, and of how many bytes the writes were that succeeded.
-#[derive(Clone, Copy)]
+// What was written: whether all of it, and of how many bytes the writes were that succeeded. Both always count, so this is no Option or Result.
+#[derive(Clone, Copy, PartialEq, Eq, Debug)]
 pub struct Written {
     pub whole: bool,
     pub bytes: usize,
 }
 
 // Writes the first n bytes of a line. What a write that fails has taken is not counted.
+#[tactic(auto, using(crate::proofs::WriteLaws::all_written, crate::proofs::WriteLaws::part_written))]
 fn write_front(fd: i32, line: &[u8], n: usize) -> Written
     ensures { WrittenOf (length (part 0 n line.now)) result }
 {
-    let front = part8(line, 0, n);
+    let front = part(line, 0, n);
     if write_all(fd, front) {
         return Written {
             whole: true,
@@ -57,12 +59,13 @@ fn write_lines(
     let mut bytes: usize = 0;
     loop {
         match next(c, maps, ends, rests, words, line) {
-            Step::End => return Written { whole: true, bytes },
-            Step::Refused(_) => return Written {
+            Ok(None) => return Written { whole: true, bytes },
+            // not met: the lent line has 256 bytes
+            Err(_) => return Written {
                 whole: false,
                 bytes,
             },
-            Step::Line(n, after) => {
+            Ok(Some((n, after))) => {
                 let front = write_front(fd, line, n);
                 if !front.whole {
                     return Written {
@@ -80,7 +83,7 @@ fn write_lines(
 // Writes what is to be printed: the lines from a position on, or `refused N` alone.
 fn write_printing(
     fd: i32,
-    printing: Printing,
+    printing: Result<Listing, Refusal>,
     maps: &[u64],
     ends: &[u64],
     rests: &[u64],
@@ -88,19 +91,20 @@ fn write_printing(
     line: &mut [u8],
 ) -> Written
     requires { 256 ≤ length line.old }
-    ensures { WrittenOf (length (shown printing (lent maps.now ends.now rests.now) words.now)) result }
+    ensures { WrittenOf (length (shown (numbered printing) (lent maps.now ends.now rests.now) words.now)) result }
 {
     match printing {
-        Printing::Refused(n) => {
-            let size = refused(n, line);
+        Err(r) => {
+            let size = refused(r.number(), line);
             write_front(fd, line, size)
         }
-        Printing::At(position) => write_lines(fd, position, maps, ends, rests, words, line),
+        Ok(position) => write_lines(fd, position, maps, ends, rests, words, line),
     }
 }
 
 // Loads and runs the job of these bytes with the job's budget, and writes its sheet, or `refused N` alone. Every byte string has one. Answers whether
 // all of it was written, which is then as long as the definition's, and how many bytes.
+#[tactic(auto, using(crate::proofs::WriteLaws::sheet_written), unfolding(reg_matrix::specs::Refusals::short_buffer))]
 pub fn write_sheet(fd: i32, s: &[u8]) -> Written
     ensures { WrittenOf (length (printed s.now)) result }
 {

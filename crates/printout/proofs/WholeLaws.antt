@@ -14,14 +14,11 @@ use Rattle.job.specs.Layout.{JobSlices}
 use Rattle.allocator.specs.Layout.{StateBuffers}
 use Rattle.lent.proofs.Laws.{sets_append}
 use Rattle.listing.specs.declared.Listing.{Listing}
-use Rattle.listing.specs.declared.Step.{Step}
-use Rattle.listing.specs.declared.Step.TheVariants.{Line, End as NoMore, Refused as NotListed}
+use Rattle.std.specs.Prelude.{Option, Some, None, Result, Ok, Err}
 use Rattle.texts.specs.Texts.{Stored}
 use Rattle.lines.specs.LineTexts.{Lent}
 use Rattle.listing.specs.Walk.{line_limit}
 use Rattle.listing.proofs.LineLaws.{refused_room}
-use Rattle.sheets.specs.declared.Printing.{Printing}
-use Rattle.sheets.specs.declared.Printing.TheVariants.{Refused, At}
 use Rattle.sheets.specs.Printing.{lines_lent, shown, LeftToPrint, Begun, NextLine}
 use Rattle.sheets.proofs.CountLaws.{refused_part, Counted, count_start, count_end, line_front, line_size, count_room, count_more}
 use Rattle.printout.specs.Whole.{Appended, lines_text, LinesPrinted, ShownPrinted, Printed}
@@ -47,19 +44,19 @@ module _ (l : Lent) (words : List ℕ) (c₀ : Listing) (out₀ : List ℕ) wher
   pub print_start : c₀.header.virt_regs < 65536 → PrintedTo c₀ out₀ 0
   print_start h = record { rest = refl; counted = count_start l words c₀ h; kept = refl }
 
-  module _ (c : Listing) (out : List ℕ) (at : ℕ) (so : PrintedTo c out at) (s t : List ℕ) (long : line_limit ≤ length s) (same : length t ≡ length s) (r : Step) (d : NextLine c l words s t r) where
+  module _ (c : Listing) (out : List ℕ) (at : ℕ) (so : PrintedTo c out at) (s t : List ℕ) (long : line_limit ≤ length s) (same : length t ≡ length s) (r : Result (Option (ℕ × Listing)) ℕ) (d : NextLine c l words s t r) where
     -- nothing is left
-    pub print_end : r ≡ NoMore → LinesPrinted c₀ l words out₀ out at
+    pub print_end : r ≡ Ok None → LinesPrinted c₀ l words out₀ out at
     unfolding concat_map
     print_end told =
         let none : lines_text c l words ≡ [] = ap (λ (ls : List (List ℕ)). concat_map (λ x. x) ls) (subst (LeftToPrint c l words t) told (d.left long)) in
         record { size = count_end l words c₀ c at so.counted s t long same r d told; stored = sym (ap (sets out at) none) ∙ so.rest }
 
     -- a lent line that is long enough is not refused
-    pub not_refused : (n : ℕ) → r ≡ NotListed n → ⊥
+    pub not_refused : (n : ℕ) → r ≡ Err n → ⊥
     not_refused n told = subst (LeftToPrint c l words t) told (d.left long)
 
-    module _ (k : ℕ) (after : Listing) (told : r ≡ Line k after) (bytes : List ℕ) (e : bytes ≡ part 0 k t) where
+    module _ (k : ℕ) (after : Listing) (told : r ≡ Ok (Some (k, after))) (bytes : List ℕ) (e : bytes ≡ part 0 k t) where
       size_is : length bytes ≡ k
       size_is = ap (λ (x : List ℕ). length x) e ∙ line_size l words c₀ c at so.counted s t long same r d k after told
 
@@ -98,11 +95,11 @@ pub refused_small :
 refused_small m s t k long stored bytes is =
     omega (arith, ap (λ (x : List ℕ). length x) (is ∙ refused_part m s t k long stored), refused_room m)
 
-module _ (p : Printing) (l : Lent) (words out out' : List ℕ) (n : ℕ) where
+module _ (p : Result Listing ℕ) (l : Lent) (words out out' : List ℕ) (n : ℕ) where
   -- a refusal's line, from a lent line
   pub refused_printed :
       (m : ℕ)
-      → p ≡ Refused m
+      → p ≡ Err m
       → (s t : List ℕ) (k : ℕ)
       → line_limit ≤ length s
       → Stored s 0 (refused_line m) t k
@@ -112,19 +109,19 @@ module _ (p : Printing) (l : Lent) (words out out' : List ℕ) (n : ℕ) where
       → ShownPrinted p l words out out' n
   unfolding shown
   refused_printed m told s t k long stored bytes is a =
-      let e : bytes ≡ shown p l words = is ∙ refused_part m s t k long stored ∙ sym (ap (λ (x : Printing). shown x l words) told) in
+      let e : bytes ≡ shown p l words = is ∙ refused_part m s t k long stored ∙ sym (ap (λ (x : Result Listing ℕ). shown x l words) told) in
       record { size = a.place ∙ zero-add (length bytes) ∙ ap (λ (x : List ℕ). length x) e; stored = a.line ∙ ap (sets out 0) e }
 
-  pub lines_printed : (c : Listing) → p ≡ At c → LinesPrinted c l words out out' n → ShownPrinted p l words out out' n
+  pub lines_printed : (c : Listing) → p ≡ Ok c → LinesPrinted c l words out out' n → ShownPrinted p l words out out' n
   unfolding shown
   lines_printed c told k =
-      let e : lines_text c l words ≡ shown p l words = sym (ap (λ (x : Printing). shown x l words) told) in
+      let e : lines_text c l words ≡ shown p l words = sym (ap (λ (x : Result Listing ℕ). shown x l words) told) in
       record { size = k.size ∙ ap (λ (x : List ℕ). length x) e; stored = k.stored ∙ ap (sets out 0) e }
 
 -- ---- the whole
 
 pub sheet_printed :
-    (bytes : List ℕ) (B : JobSlices) (S : StateBuffers) (W : List ℕ) (B' : JobSlices) (S' : StateBuffers) (W' out out' : List ℕ) (n : ℕ) (r : Printing)
+    (bytes : List ℕ) (B : JobSlices) (S : StateBuffers) (W : List ℕ) (B' : JobSlices) (S' : StateBuffers) (W' out out' : List ℕ) (n : ℕ) (r : Result Listing ℕ)
     → Begun bytes B S W B' S' W' r
     → ShownPrinted r (lines_lent B' S') W' out out' n
     → Printed bytes B S W B' S' W' out out' n

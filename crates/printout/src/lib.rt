@@ -2,29 +2,29 @@
 #![tactic(auto)]
 
 ghost use Rattle.std.specs.Prelude.{◌+◌, ◌≤◌, ◌<◌, length};
+ghost use Rattle.reg_matrix.specs.Refused.{numbered};
 ghost use Rattle.job.specs.Layout.{slices};
 ghost use Rattle.run_loop.specs.Running.{lent_state};
 ghost use Rattle.lines.specs.LineTexts.{lent};
 ghost use Rattle.printout.specs.Whole.{Appended, LinesPrinted, ShownPrinted, Printed};
 
 use job_sheet::begin;
-use lent::{at8, part8, put8};
+use lent::{part, put};
+use listing::Listing;
 use listing::sheet::refused;
-use listing::{Listing, Step};
-use sheets::Printing;
+use reg_matrix::Refusal;
 use sheets::sheet::next;
 
-// Stores a text from place `at` on, and gives the place after it.
+// Stores a text from place `at` on, and gives the place after it. That of the crate texts gives no place past the end of a full line; here it is one, since
+// what the whole sheet would take is counted.
 fn text(out: &mut [u8], at: usize, bytes: &[u8]) -> usize
     requires { at + length bytes.now < 4294967296 }
     ensures { Appended out.old at bytes.now out.new result }
 {
-    let mut i = 0;
-    while i < bytes.len() {
-        put8(out, at + i, at8(bytes, i));
-        i += 1;
+    for (i, b) in bytes.iter().enumerate() {
+        put(out, at + i, *b);
     }
-    at + i
+    at + bytes.len()
 }
 
 // Stores the lines of a sheet from a position on, one after another, and gives how many bytes they have.
@@ -44,11 +44,11 @@ fn print_from(
     let mut at: usize = 0;
     loop {
         match next(c, maps, ends, rests, words, line) {
-            Step::End => return at,
+            Ok(None) => return at,
             // not met: the lent line has 256 bytes
-            Step::Refused(_) => return at,
-            Step::Line(n, after) => {
-                at = text(out, at, part8(line, 0, n));
+            Err(_) => return at,
+            Ok(Some((n, after))) => {
+                at = text(out, at, part(line, 0, n));
                 c = after;
             }
         }
@@ -57,22 +57,22 @@ fn print_from(
 
 // Stores what is to be printed, the lines from a position on or `refused N` alone, and gives how many bytes that has.
 fn print_shown(
-    printing: Printing,
+    printing: Result<Listing, Refusal>,
     maps: &[u64],
     ends: &[u64],
     rests: &[u64],
     words: &[u64],
     out: &mut [u8],
 ) -> usize
-    ensures { ShownPrinted printing (lent maps.now ends.now rests.now) words.now out.old out.new result }
+    ensures { ShownPrinted (numbered printing) (lent maps.now ends.now rests.now) words.now out.old out.new result }
 {
     let mut line = [0u8; 256];
     match printing {
-        Printing::Refused(n) => {
-            let size = refused(n, &mut line);
-            text(out, 0, part8(&line, 0, size))
+        Err(r) => {
+            let size = refused(r.number(), &mut line);
+            text(out, 0, part(&line, 0, size))
         }
-        Printing::At(position) => print_from(position, maps, ends, rests, words, &mut line, out),
+        Ok(position) => print_from(position, maps, ends, rests, words, &mut line, out),
     }
 }
 

@@ -6,10 +6,9 @@ use mathlib.Core.List.{List}
 use lib.ListN.{length, get_or, set, length-set}
 use Rattle.queue.specs.QueueWalk.{play_at, climb, leaves_from, play_from}
 
-pub climb_more : (n : ℕ) (q : List ℕ) (i : ℕ) → 0 < n → climb (n - 1) (play_at q (i / 2)) (i / 2) ≡ climb n q i
+pub climb_more : (k : ℕ) (q : List ℕ) (i : ℕ) → k < 9 → climb (9 - (k + 1)) (play_at q (i / 2)) (i / 2) ≡ climb (9 - k) q i
 unfolding climb
-climb_more zero q i h = absurd (omega arith)
-climb_more (suc n) q i h = let e : suc n - 1 ≡ n = omega arith in rw e
+climb_more k q i h = let e : 9 - k ≡ suc (9 - (k + 1)) = omega arith in rw e
 
 pub climb_end : (n : ℕ) (q : List ℕ) (i : ℕ) → n ≤ 0 → climb n q i ≡ q
 unfolding climb

@@ -3,18 +3,12 @@ use Prim.Native.Nat.{ℕ, zero, suc, ◌+◌, ◌*◌, ◌-◌, ◌/◌, ◌%◌
 use native.Mathlib.Nat.{pow-suc, pow-le-pow_right}
 use native.Mathlib.Numerals.{add-one}
 use native.Mathlib.Omega.{arith}
-use mathlib.Core.Path.{◌≡◌, refl, ap, sym, ◌∙◌}
+use mathlib.Core.Path.{◌≡◌, refl, ap, ◌∙◌}
 use mathlib.Core.List.{List, [], ◌∷◌}
 use lib.ListN.{length, drop, get_or}
 use lib.Seq.{drop-cons}
 use lib.Count.{ones, ones_in, ones_step}
-use mathlib.Core.Bool.{Bool}
-use Rattle.reader.specs.Read.{read_view, Little, Field, num_view, Num}
-use Rattle.reader.specs.declared.read.Number.{Number}
-use Rattle.reader.specs.declared.read.Number.TheVariants.{Is, Refused}
-use Rattle.reader.specs.declared.read.Read.{Read}
-use Rattle.reader.specs.declared.read.Read.TheVariants.{Value, Short}
-use Rattle.job.specs.Parser.{Parser, refused, parsed, little, if_bit}
+use Rattle.job.specs.Parser.{refused, parsed, little}
 
 pub little_short : (n : ℕ) (l : List ℕ) → length l < n → little n l ≡ refused 1
 unfolding little
@@ -50,37 +44,6 @@ module _ (s t : List ℕ) (at n i v : ℕ) (some : 0 < i) (le : i ≤ n) (within
 
 pub pow_pos : (k : ℕ) → 0 < 256 ^ k
 pow_pos k = omega (arith, pow-le-pow_right {n = 256} (omega arith) {i = 0} {j = k} (omega arith))
-
--- what a reader's answer says of the rules' parser
-module _ {s : List ℕ} {at n : ℕ} {r : Read} (h : Little s at n r) where
-  pub short : r ≡ Short → little n (drop at s) ≡ refused 1
-  short e = sym h.view ∙ ap (read_view s) e
-
-  pub took : {v p : ℕ} → r ≡ Value v p → little n (drop at s) ≡ parsed v (drop p s)
-  took e = sym h.view ∙ ap (read_view s) e
-
-  pub took_small : {v p : ℕ} → r ≡ Value v p → v < 256 ^ n
-  took_small e = rw e at h.small
-
-module _ {s : List ℕ} {at : ℕ} {stands : Bool} {n absent : ℕ} {r : Read} (h : Field s at stands n absent r) where
-  pub short_field : r ≡ Short → if_bit stands absent (little n) (drop at s) ≡ refused 1
-  short_field e = sym h.view ∙ ap (read_view s) e
-
-  pub took_field : {v p : ℕ} → r ≡ Value v p → if_bit stands absent (little n) (drop at s) ≡ parsed v (drop p s)
-  took_field e = sym h.view ∙ ap (read_view s) e
-
-  pub field_small : {v p : ℕ} → r ≡ Value v p → v < 256 ^ n
-  field_small e = rw e at h.small
-
-module _ {s : List ℕ} {at : ℕ} {p : Parser ℕ} {bound : ℕ} {r : Number} (h : Num s at p bound r) where
-  pub no_num : {n : ℕ} → r ≡ Refused n → p (drop at s) ≡ refused n
-  no_num e = sym h.view ∙ ap (num_view s) e
-
-  pub took_num : {v next : ℕ} → r ≡ Is v next → p (drop at s) ≡ parsed v (drop next s)
-  took_num e = sym h.view ∙ ap (num_view s) e
-
-  pub num_small : {v next : ℕ} → r ≡ Is v next → v ≤ bound
-  num_small e = rw e at h.small
 
 -- a map's ones, counted over its d lowest digits
 pub ones_in_lem : (d n : ℕ) → n < 2 ^ d → ones n ≡ ones_in d n

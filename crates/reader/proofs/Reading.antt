@@ -4,9 +4,6 @@ use native.Mathlib.Omega.{arith}
 use mathlib.Core.Path.{◌≡◌, refl, ◌∙◌}
 use mathlib.Core.List.{List, [], ◌∷◌, ◌++◌}
 use lib.ListN.{length, drop, length-append}
-use Rattle.reader.specs.Read.{Outcome}
-use Rattle.reader.specs.declared.read.Next.{Next}
-use Rattle.reader.specs.declared.read.Next.TheVariants.{At, Refused}
 use Rattle.job.specs.Parser.{Parser, Parsed, refused, parsed, and_then, each}
 
 -- of the n entries from position `start` of s on, i are read: those of `before`, and the next is at `at`
@@ -39,14 +36,6 @@ module _ {A : Type 0} {s : List ℕ} {p : List A → Parser A} {n start i at : �
   ends le =
       let k : n - i ≡ 0 = omega arith in
       h.rest ∙ rw k
-
--- a second reading, where the first has found what the rules' parser answers
-module _ {A : Type 0} {a : A} {t : List ℕ} where
-  pub again : (s : List ℕ) (p : Parsed A) (r : Next) (stored : A → Type 0) → p ≡ parsed a t → Outcome s p r stored → (at : ℕ) × (r ≡ At at) × (t ≡ drop at s) × stored a
-  again s p (Refused n) stored e h = absurd (let z : ◌≡◌ {A = ℕ} 0 1 = cc in omega arith)
-  again s p (At at) stored e h =
-      let same : a ≡ h.0 = cc in
-      (at, refl, (cc), rw same h.2)
 
 module _ {A : Type 0} (p : List A → Parser A) where
   step_length : (n : ℕ) (before : List A) {a : List A} {t : List ℕ} → ((x : A) (m : List ℕ) → each p n (before ++ (x ∷ [])) m ≡ parsed a t → length a ≡ length (before ++ (x ∷ [])) + n) → (q : Parsed A) → and_then q (λ x. each p n (before ++ (x ∷ []))) ≡ parsed a t → length a ≡ length before + suc n

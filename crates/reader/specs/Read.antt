@@ -1,19 +1,15 @@
 -- What the code's readers promise, in the terms of the parsers of Load.antt: a position stands for the bytes that follow it, and what was read
 -- is stored in lent slices from some place on, where there is room. Assumes nothing.
-use Rattle.std.specs.Prelude.{ℕ, ◌+◌, ◌≤◌, ◌<◌, ◌^◌, ◌≡◌, List, [], map, Bool, drop, length, get_or}
+use Rattle.std.specs.Prelude.{ℕ, ◌+◌, ◌≤◌, ◌<◌, ◌^◌, ◌≡◌, List, [], map, Bool, drop, length, get_or, Result, Ok, Err}
 use Rattle.std.proofs.lemmas.List.Edits.{sets}
 use Rattle.reg_matrix.specs.Lists.{concat_map}
+use Rattle.reg_matrix.specs.Refused.{number_of}
+use Rattle.reg_matrix.specs.declared.Refusal.{Refusal}
 use Rattle.reg_matrix.specs.declared.ValueSegment.{ValueSegment}
 use Rattle.reg_matrix.specs.declared.Entry.{Entry}
 use Rattle.reg_matrix.specs.declared.Reservation.{Reservation}
 use Rattle.reg_matrix.specs.declared.Reservation.TheVariants.{Held, FixedUse, FixedDef}
 use Rattle.job.specs.declared.Hint.{Hint}
-use Rattle.reader.specs.declared.read.Read.{Read}
-use Rattle.reader.specs.declared.read.Read.TheVariants.{Value, Short}
-use Rattle.reader.specs.declared.read.Number.{Number}
-use Rattle.reader.specs.declared.read.Number.TheVariants.{Is as IsNumber, Refused as NoNumber}
-use Rattle.reader.specs.declared.read.Next.{Next}
-use Rattle.reader.specs.declared.read.Next.TheVariants.{At, Refused as NoNext}
 use Rattle.job.specs.Model.{VirtReg}
 use Rattle.job.specs.Parser.{Parser, Parsed, refused, parsed, little, if_bit, each, ◌>>=◌}
 use Rattle.job.specs.Load.{count_of, fixed_fields, fixed_tests}
@@ -21,47 +17,41 @@ use Rattle.job.specs.Layout.{starts_from}
 
 -- ---- numbers
 
-abbrev pub read_view : List ℕ → Read → Parsed ℕ
-read_view s (Value v at) = parsed v (drop at s)
-read_view s Short = refused 1
+-- what was read and the bytes left after it, or the number of the refusal
+module _ {A : Type 0} where
+  abbrev pub read_view : List ℕ → Result (A × ℕ) Refusal → Parsed A
+  read_view s (Ok (a, at)) = parsed a (drop at s)
+  read_view s (Err r) = refused (number_of r)
 
-abbrev pub read_value : Read → ℕ
-read_value (Value v at) = v
-read_value Short = 0
+abbrev pub read_value : Result (ℕ × ℕ) Refusal → ℕ
+read_value (Ok (v, at)) = v
+read_value (Err r) = 0
 
-pub record Little (s : List ℕ) (at n : ℕ) (r : Read) : Type 0 where
+pub record Little (s : List ℕ) (at n : ℕ) (r : Result (ℕ × ℕ) Refusal) : Type 0 where
   pub view : read_view s r ≡ little n (drop at s)
   pub small : read_value r < 256 ^ n
 
-pub record Field (s : List ℕ) (at : ℕ) (stands : Bool) (n absent : ℕ) (r : Read) : Type 0 where
+pub record Field (s : List ℕ) (at : ℕ) (stands : Bool) (n absent : ℕ) (r : Result (ℕ × ℕ) Refusal) : Type 0 where
   pub view : read_view s r ≡ if_bit stands absent (little n) (drop at s)
   pub small : read_value r < 256 ^ n
 
-abbrev pub num_view : List ℕ → Number → Parsed ℕ
-num_view s (IsNumber v at) = parsed v (drop at s)
-num_view s (NoNumber n) = refused n
-
-abbrev pub num_value : Number → ℕ
-num_value (IsNumber v at) = v
-num_value (NoNumber n) = 0
-
 -- the answer of the parser p at a position, at most `bound`
-pub record Num (s : List ℕ) (at : ℕ) (p : Parser ℕ) (bound : ℕ) (r : Number) : Type 0 where
-  pub view : num_view s r ≡ p (drop at s)
-  pub small : num_value r ≤ bound
+pub record Num (s : List ℕ) (at : ℕ) (p : Parser ℕ) (bound : ℕ) (r : Result (ℕ × ℕ) Refusal) : Type 0 where
+  pub view : read_view s r ≡ p (drop at s)
+  pub small : read_value r ≤ bound
 
 -- ---- tables
 
 -- where the parser answers p: the same refusal, or a position and what is stored
 module _ {A : Type 0} where
-  abbrev pub Outcome : List ℕ → Parsed A → Next → (A → Type 0) → Type 0
-  Outcome s p (NoNext n) stored = p ≡ refused n
-  Outcome s p (At at) stored = (a : A) × (p ≡ parsed a (drop at s)) × stored a
+  abbrev pub Outcome : List ℕ → Parsed A → Result ℕ Refusal → (A → Type 0) → Type 0
+  Outcome s p (Err r) stored = p ≡ refused (number_of r)
+  Outcome s p (Ok at) stored = (a : A) × (p ≡ parsed a (drop at s)) × stored a
 
   -- the same with the size of what was read, which is at most `room`
-  abbrev pub Counted : List ℕ → Parsed A → (A → ℕ) → ℕ → Number → (A → Type 0) → Type 0
-  Counted s p size room (NoNumber n) stored = p ≡ refused n
-  Counted s p size room (IsNumber k at) stored = (a : A) × (p ≡ parsed a (drop at s)) × (size a ≡ k) × (k ≤ room) × stored a
+  abbrev pub Counted : List ℕ → Parsed A → (A → ℕ) → ℕ → Result (ℕ × ℕ) Refusal → (A → Type 0) → Type 0
+  Counted s p size room (Err r) stored = p ≡ refused (number_of r)
+  Counted s p size room (Ok (k, at)) stored = (a : A) × (p ≡ parsed a (drop at s)) × (size a ≡ k) × (k ≤ room) × stored a
 
   -- a count of n bytes, and as many, where their bit stands
   abbrev pub table_of : Bool → ℕ → ℕ → (List A → Parser A) → Parser (List A)

@@ -7,7 +7,7 @@ use mathlib.Core.List.{List, [], ◌∷◌, ◌++◌, map}
 use mathlib.Core.Bool.{Bool, true, false, not}
 use lib.Dec.{T, eqb}
 use lib.ListN.{length, get_or, set, take, drop, take-append-drop, length-map, length-set, get_or-map, get_or-append, get_or-eq_default}
-use lib.Seq.{sets, sets-eq, length-sets, take_at, take_all, drop_at, drop-cons, drop-length, drop-set-lt, set_out, get_or-set_same, get_or-set_other, ext_get_or}
+use lib.Seq.{sets, sets-eq, length-sets, take_at, take_all, drop_at, drop-cons, drop-set-lt, set_out, get_or-set_same, get_or-set_other, ext_get_or}
 use lib.Ieee.{Float, nan, inf, fin, binary32, of_bits, to_bits, is_nan, fits, ne, eq}
 use lib.Ieee.Compare.{differs_from_itself}
 use lib.Ieee.Bits.{of_bits-to_bits, to_bits-lt, nan_bits_is}
@@ -170,14 +170,6 @@ module _ {rs : List Assignment} {ws₀ ws : List ℕ} {i : ℕ} (h : Storing rs 
           let k : v ≡ i = eqb-true v i q in
           rw (k, get_or-set_same ws i x 0 (omega (arith, h.kept))) (e.1 (subst PlainRecord (sym same) (p i)) ∙ same)
       one p m v false q b = let k = eqb-false v i q in rw (get_or-set_other ws i v x 0 k) (h.back p m v (omega arith))
-
-  pub store_end : 512 ≤ i → ws ≡ sets ws₀ 0 (map record_word rs)
-  store_end l =
-      let e : i ≡ length rs = omega (arith, h.size, h.bound) in
-      sym
-      (h.rest
-      ∙ subst (λ (k : ℕ). sets ws k (map record_word (drop k rs)) ≡ ws) (sym e)
-      (ap (λ (l : List Assignment). sets ws (length rs) (map record_word l)) (drop-length rs)))
 
   -- all are stored, and read again
   pub store_back : 512 ≤ i → AllPlain rs → 512 ≤ length ws₀ → records_in ws ≡ rs

@@ -21,6 +21,7 @@ fn weight_bits(w: f32) -> u32
 }
 
 // The weight of these bits, or 0.
+#[tactic(auto, using(job::proofs::WeightBits::not_nan))]
 fn weight_in(bits: u32) -> f32
     ensures { result ≡ weight_in bits }
 {
@@ -87,11 +88,8 @@ pub fn store(records: [Assignment; 512], words: &mut [u64])
     ensures words_after { words.new ≡ sets words.old 0 (map record_word records) }
     ensures read_back { AllPlain records → 512 ≤ length words.old → records_in words.new ≡ records }
 {
-    let mut i: usize = 0;
-    while i < 512 {
-        let a = records[i];
-        put(words, i, word_of(a));
-        i += 1;
+    for i in 0..512 {
+        put(words, i, word_of(records[i]));
     }
 }
 
@@ -102,10 +100,8 @@ pub fn read(words: &[u64]) -> [Assignment; 512]
     let mut all = [Assignment::Unassigned {
         evicted_for_preference: false,
     }; 512];
-    let mut i: usize = 0;
-    while i < 512 {
+    for i in 0..512 {
         all[i] = record_of(at(words, i));
-        i += 1;
     }
     all
 }
@@ -116,9 +112,7 @@ pub fn renew(words: &mut [u64])
     ensures words_after { words.new ≡ sets words.old 0 (map record_word (records_in words.old)) }
     ensures words_unchanged { AllPlain (records_in words.old) → 512 ≤ length words.old → records_in words.new ≡ records_in words.old }
 {
-    let mut i: usize = 0;
-    while i < 512 {
+    for i in 0..512 {
         put(words, i, word_of(record_of(at(words, i))));
-        i += 1;
     }
 }

@@ -1,5 +1,5 @@
 // What a record says, whichever of its three cases it is, and a record by its three parts: what it is, as a number; its register; its weight.
-ghost use Rattle.std.specs.Prelude.{◌≡◌, cond};
+ghost use Rattle.std.specs.Prelude.{◌≡◌};
 ghost use Rattle.records.specs.Fields.{flag_in, is_held, reg_in, record_weight, kind_of, record_by};
 
 use allocator::Assignment;
@@ -11,8 +11,7 @@ pub fn flag_of(a: Assignment) -> bool
     match a {
         Assignment::Assigned {
             evicted_for_preference,
-            reg: _,
-            preference_weight: _,
+            ..
         } => evicted_for_preference,
         Assignment::Unassigned {
             evicted_for_preference,
@@ -25,17 +24,7 @@ pub fn flag_of(a: Assignment) -> bool
 pub fn is_assigned(a: Assignment) -> bool
     ensures { result ≡ is_held a }
 {
-    match a {
-        Assignment::Assigned {
-            evicted_for_preference: _,
-            reg: _,
-            preference_weight: _,
-        } => true,
-        Assignment::Unassigned {
-            evicted_for_preference: _,
-        } => false,
-        Assignment::Dead => false,
-    }
+    matches!(a, Assignment::Assigned { .. })
 }
 
 // The register that a record holds, or 0.
@@ -43,15 +32,8 @@ pub fn reg_of(a: Assignment) -> u8
     ensures { result ≡ reg_in a }
 {
     match a {
-        Assignment::Assigned {
-            evicted_for_preference: _,
-            reg,
-            preference_weight: _,
-        } => reg,
-        Assignment::Unassigned {
-            evicted_for_preference: _,
-        } => 0,
-        Assignment::Dead => 0,
+        Assignment::Assigned { reg, .. } => reg,
+        _ => 0,
     }
 }
 
@@ -61,37 +43,22 @@ pub fn held_weight(a: Assignment) -> f32
 {
     match a {
         Assignment::Assigned {
-            evicted_for_preference: _,
-            reg: _,
             preference_weight,
+            ..
         } => preference_weight,
-        Assignment::Unassigned {
-            evicted_for_preference: _,
-        } => 0.0,
-        Assignment::Dead => 0.0,
+        _ => 0.0,
     }
 }
 
-// One of two numbers, by a flag.
-fn by_flag(flag: bool, on: u8, off: u8) -> u8
-    ensures { result ≡ cond flag on off }
-{
-    if flag { on } else { off }
-}
-
 // What a record is, as a number: 0 or 1 for an unassigned one, 4 or 5 for an assigned one, the second of each where the flag is on; 2 for a dead one.
+// These numbers are the low byte of a record's word, in which callers of the C interface lend the records.
 pub fn kind_of(a: Assignment) -> u8
     ensures { result ≡ kind_of a }
 {
+    let flag = u8::from(flag_of(a));
     match a {
-        Assignment::Assigned {
-            evicted_for_preference,
-            reg: _,
-            preference_weight: _,
-        } => by_flag(evicted_for_preference, 5, 4),
-        Assignment::Unassigned {
-            evicted_for_preference,
-        } => by_flag(evicted_for_preference, 1, 0),
+        Assignment::Assigned { .. } => 4 + flag,
+        Assignment::Unassigned { .. } => flag,
         Assignment::Dead => 2,
     }
 }
@@ -100,29 +67,15 @@ pub fn kind_of(a: Assignment) -> u8
 pub fn record_by(kind: u8, reg: u8, weight: f32) -> Assignment
     ensures { result ≡ record_by kind reg weight }
 {
-    if kind == 0 {
-        return Assignment::Unassigned {
-            evicted_for_preference: false,
-        };
-    }
-    if kind == 1 {
-        return Assignment::Unassigned {
-            evicted_for_preference: true,
-        };
-    }
-    if kind == 4 {
-        return Assignment::Assigned {
-            evicted_for_preference: false,
+    match kind {
+        0 | 1 => Assignment::Unassigned {
+            evicted_for_preference: kind == 1,
+        },
+        4 | 5 => Assignment::Assigned {
+            evicted_for_preference: kind == 5,
             reg,
             preference_weight: weight,
-        };
+        },
+        _ => Assignment::Dead,
     }
-    if kind == 5 {
-        return Assignment::Assigned {
-            evicted_for_preference: true,
-            reg,
-            preference_weight: weight,
-        };
-    }
-    Assignment::Dead
 }

@@ -9,6 +9,7 @@ use crate::assignment::flag_of;
 use allocator::Assignment;
 
 // The weight of these bits. Test 9 lets no others through.
+#[tactic(auto, using(job::proofs::WeightBits::not_nan))]
 fn weight_of(bits: u32) -> f32
     ensures { bits < 0x7F80_0000 → result ≡ of_bits binary32 bits }
 {

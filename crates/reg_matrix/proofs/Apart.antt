@@ -10,8 +10,8 @@ use lib.Dec.{T}
 use Rattle.reg_matrix.specs.Table.{Table, before, on_unit}
 use Rattle.reg_matrix.specs.Check.{overlaps}
 use Rattle.reg_matrix.specs.Assign.{replaced}
+use Rattle.std.specs.Prelude.{Option}
 use Rattle.reg_matrix.specs.declared.Entry.{Entry}
-use Rattle.reg_matrix.specs.declared.FixedIndex.{FixedIndex}
 use Rattle.reg_matrix.specs.declared.Reservation.TheVariants.{Held}
 use Rattle.reg_matrix.proofs.Members.{◌∈◌, on_unit_out}
 use Rattle.reg_matrix.proofs.Sorted.{Before, before→, below_out, Sorted, on_unit_sorted}
@@ -99,7 +99,7 @@ module _ (fixed : List Entry) (cs : List Cell) (t : Table) (sd : Sound fixed) (i
         → e ∈ t
         → f ∈ t
         → e.unit ≡ f.unit
-        → (v w : ℕ) (i j : FixedIndex)
+        → (v w : ℕ) (i j : Option ℕ)
         → e.reservation ≡ Held v i
         → f.reservation ≡ Held w j
         → (v ≡ w → ⊥)

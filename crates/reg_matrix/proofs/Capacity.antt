@@ -14,8 +14,7 @@ use Rattle.reg_matrix.specs.Table.{Table, is_use, before, fixed_uses}
 use Rattle.reg_matrix.specs.Assign.{replaced, first_use, fixed_index}
 use Rattle.reg_matrix.specs.declared.ValueSegment.{ValueSegment}
 use Rattle.reg_matrix.specs.declared.Entry.{Entry}
-use Rattle.reg_matrix.specs.declared.FixedIndex.{FixedIndex}
-use Rattle.reg_matrix.specs.declared.FixedIndex.TheVariants.{At, NoIndex}
+use Rattle.std.specs.Prelude.{Option, Some, None}
 use Rattle.reg_matrix.specs.declared.Reservation.TheVariants.{Held}
 use Rattle.reg_matrix.proofs.Members.{◌∈◌, any_out, fixed_uses_in}
 use Rattle.reg_matrix.proofs.Sorted.{Sorted, Within, below_out, before_irrefl}
@@ -135,7 +134,7 @@ module _ (fixed : List Entry) (cs : List Cell) (t : Table) (it : IsTable fixed c
           (subst (λ (n : ℕ). P k.0.u k.0.s.from n) (sym h.to_is) (b k.0 h.among)))
 
 -- the index of a cell is the place of a fixed use: one of those that it replaces
-index_below : (fixed : List Entry) (u : ℕ) (s : ValueSegment) (i : ℕ) → fixed_index fixed u s fixed ≡ At i → i < length (fixed_uses fixed u)
+index_below : (fixed : List Entry) (u : ℕ) (s : ValueSegment) (i : ℕ) → fixed_index fixed u s fixed ≡ Some i → i < length (fixed_uses fixed u)
 unfolding fixed_index first_use
 index_below fixed u s i q = go (any (replaced u s) fixed) refl q
   where
@@ -145,13 +144,13 @@ index_below fixed u s i q = go (any (replaced u s) fixed) refl q
     p : Entry → Bool
     p f = ltb f.from s.from
 
-    same : At (first_use us s) ≡ At i → first_use us s ≡ i
+    same : Some (first_use us s) ≡ Some i → first_use us s ≡ i
     same e = cc
 
-    never : NoIndex ≡ At i → ⊥
+    never : None ≡ Some i → ⊥
     never e = let z : ◌≡◌ {A = ℕ} 0 1 = cc in omega arith
 
-    go : (b : Bool) → any (replaced u s) fixed ≡ b → cond b (At (first_use us s)) NoIndex ≡ At i → i < length us
+    go : (b : Bool) → any (replaced u s) fixed ≡ b → cond b (Some (first_use us s)) None ≡ Some i → i < length us
     go true a e =
         let k = any_out (replaced u s) fixed (subst T (sym a) tt) in
         let r = replaced→ u s k.0 k.2 in
@@ -160,19 +159,19 @@ index_below fixed u s i q = go (any (replaced u s) fixed) refl q
     go false a e = absurd (never e)
 
 module _ (fixed : List Entry) (cs : List Cell) (t : Table) (sd : Sound fixed) (it : IsTable fixed cs t) where
-  pub held_index : (e : Entry) → e ∈ t → (v i : ℕ) → e.reservation ≡ Held v (At i) → i < length (fixed_uses fixed e.unit)
+  pub held_index : (e : Entry) → e ∈ t → (v i : ℕ) → e.reservation ≡ Held v (Some i) → i < length (fixed_uses fixed e.unit)
   held_index e m v i q = go (entry_source fixed cs t it e m)
     where
-      same : (w : ℕ) (j : FixedIndex) → Held w j ≡ Held v (At i) → j ≡ At i
+      same : (w : ℕ) (j : Option ℕ) → Held w j ≡ Held v (Some i) → j ≡ Some i
       same w j z = cc
 
       go : (e ∈ fixed) ⊎ ((c : Cell) × OfCell fixed cs e c) → i < length (fixed_uses fixed e.unit)
-      go (inl f) = absurd (not_held fixed sd e f v (At i) q)
+      go (inl f) = absurd (not_held fixed sd e f v (Some i) q)
       go (inr k) =
           subst (λ (u : ℕ). i < length (fixed_uses fixed u)) (sym k.1.unit_is)
           (index_below fixed k.0.u k.0.s i (same k.0.v (fixed_index fixed k.0.u k.0.s fixed) (sym k.1.held_is ∙ q)))
 
-  pub held_index_fixed : (e : Entry) → e ∈ t → (v i : ℕ) → e.reservation ≡ Held v (At i) → i < length fixed
+  pub held_index_fixed : (e : Entry) → e ∈ t → (v i : ℕ) → e.reservation ≡ Held v (Some i) → i < length fixed
   unfolding fixed_uses
   held_index_fixed e m v i q =
       let h : i < length (fixed_uses fixed e.unit) = held_index e m v i q in

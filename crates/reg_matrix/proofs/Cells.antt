@@ -15,8 +15,7 @@ use Rattle.reg_matrix.specs.Check.{overlaps, own_use}
 use Rattle.reg_matrix.specs.Assign.{replaced, first_use, fixed_index, assign_segment}
 use Rattle.reg_matrix.specs.declared.ValueSegment.{ValueSegment}
 use Rattle.reg_matrix.specs.declared.Entry.{Entry}
-use Rattle.reg_matrix.specs.declared.FixedIndex.{FixedIndex}
-use Rattle.reg_matrix.specs.declared.FixedIndex.TheVariants.{At, NoIndex}
+use Rattle.std.specs.Prelude.{Option, Some, None}
 use Rattle.reg_matrix.specs.declared.Reservation.TheVariants.{Held}
 use Rattle.reg_matrix.proofs.Tests.{both, both_in, passes_or_not, same_test, eqb_in}
 use Rattle.reg_matrix.proofs.Members.{◌∈◌, filter_out, filter_in, any_in, any_out}
@@ -140,7 +139,7 @@ module _ (fixed : List Entry) (cs : List Cell) (t : Table) (c : Cell) (ne : None
   pub fixed_index_same : fixed_index fixed c.u c.s t ≡ fixed_index fixed c.u c.s fixed
   unfolding fixed_index
   fixed_index_same =
-      ap (λ (b : Bool). cond b (At (first_use (fixed_uses fixed c.u) c.s)) NoIndex)
+      ap (λ (b : Bool). cond b (Some (first_use (fixed_uses fixed c.u) c.s)) None)
       (same_test (any covered t) (any covered fixed)
       (λ h. let k = any_out covered t h in any_in covered k.2 (inside_table k.0 k.1 k.2))
       (λ h. let k = any_out covered fixed h in any_in covered k.2 (inside_fixed k.0 k.1 k.2)))
@@ -155,7 +154,7 @@ module _ (fixed : List Entry) (cs : List Cell) (t : Table) (c : Cell) (ne : None
   unfolding assign_segment new left entry_for
   assign_is =
       ap
-      (λ (i : FixedIndex).
+      (λ (i : Option ℕ).
       insert (record { unit = c.u; from = c.s.from; to = c.s.to; reservation = Held c.v i }) (filter (λ e. not (covered e)) t))
       fixed_index_same
 

@@ -12,9 +12,9 @@ use lib.Dec.{T, ltb, ltb→lt, nltb→le, eqb_refl}
 use Rattle.reg_matrix.specs.Lists.{keep, filter}
 use Rattle.reg_matrix.specs.Table.{fixed_uses}
 use Rattle.reg_matrix.specs.Assign.{first_use, held_by}
+use Rattle.std.specs.Prelude.{Option}
 use Rattle.reg_matrix.specs.declared.ValueSegment.{ValueSegment}
 use Rattle.reg_matrix.specs.declared.Entry.{Entry}
-use Rattle.reg_matrix.specs.declared.FixedIndex.{FixedIndex}
 use Rattle.reg_matrix.specs.declared.Reservation.{Reservation}
 use Rattle.reg_matrix.specs.declared.Reservation.TheVariants.{Held}
 use Rattle.reg_matrix.proofs.Members.{◌∈◌, filter_out, filter_none, fixed_uses_out}
@@ -114,7 +114,7 @@ pub record Sound (fixed : List Entry) : Type 0 where
   pub chain : (u : ℕ) → Chain (fixed_uses fixed u)
 
 module _ (fixed : List Entry) (sd : Sound fixed) where
-  pub not_held : (e : Entry) → e ∈ fixed → (v : ℕ) (i : FixedIndex) → e.reservation ≡ Held v i → ⊥
+  pub not_held : (e : Entry) → e ∈ fixed → (v : ℕ) (i : Option ℕ) → e.reservation ≡ Held v i → ⊥
   not_held e n v i q = sd.free e n v (subst (λ (k : Reservation). T (held_by v k)) (sym q) (eqb_refl v))
 
   pub uses_nonempty : (u : ℕ) → Nonempty (fixed_uses fixed u)

@@ -13,7 +13,7 @@ use Rattle.reg_matrix.specs.Check.{overlaps, indexed, own_use, shared_part, repo
 use Rattle.reg_matrix.specs.Assign.{replaced, assign}
 use Rattle.reg_matrix.specs.declared.ValueSegment.{ValueSegment}
 use Rattle.reg_matrix.specs.declared.Entry.{Entry}
-use Rattle.reg_matrix.specs.declared.FixedIndex.TheVariants.{At, NoIndex}
+use Rattle.std.specs.Prelude.{Some, None}
 use Rattle.reg_matrix.specs.declared.Reservation.{Reservation}
 use Rattle.reg_matrix.specs.declared.Reservation.TheVariants.{Held, FixedUse, FixedDef}
 use Rattle.reg_matrix.specs.declared.Interference.{Interference}
@@ -44,8 +44,8 @@ pub record Segments (fixed : List Entry) (ss : List ValueSegment) : Type 0 where
 
 own_only : (us : List Entry) (n : ℕ) (s : ValueSegment) (e : Entry) (k : Reservation) → reports_of us n s e k ≡ [] → T (own_use s k)
 unfolding reports_of
-own_only us n s e (Held v NoIndex) h = absurd (not_nothing h)
-own_only us n s e (Held v (At i)) h = absurd (not_nothing h)
+own_only us n s e (Held v None) h = absurd (not_nothing h)
+own_only us n s e (Held v (Some i)) h = absurd (not_nothing h)
 own_only us n s e (FixedUse x) h = go (eqb x s.value) h
   where
     go : (b : Bool) → ◌≡◌ {A = List Interference} (cond b [] (shared_part n s e Fixed ∷ [])) [] → T b

@@ -1,5 +1,5 @@
 -- Evicting one cell takes it off the table's cells: its entry goes, and the fixed uses that it replaced come back. Assumes nothing.
-use Prim.Native.Nat.{◌<◌, ◌≤◌}
+use Prim.Native.Nat.{ℕ, ◌<◌, ◌≤◌}
 use native.Mathlib.Omega.{arith}
 use mathlib.Core.Path.{◌≡◌, refl, sym, ap, ◌∙◌, subst}
 use mathlib.Core.Logic.{◌⊎◌, inl, inr}
@@ -12,8 +12,7 @@ use Rattle.reg_matrix.specs.Lists.{filter, any, first}
 use Rattle.reg_matrix.specs.Table.{Table, fixed_uses, insert_all}
 use Rattle.reg_matrix.specs.Assign.{replaced, first_use, fixed_index, held_by, entry_of, index_of, uses_from, put_back, evict_segment}
 use Rattle.reg_matrix.specs.declared.Entry.{Entry}
-use Rattle.reg_matrix.specs.declared.FixedIndex.{FixedIndex}
-use Rattle.reg_matrix.specs.declared.FixedIndex.TheVariants.{At, NoIndex}
+use Rattle.std.specs.Prelude.{Option, Some, None}
 use Rattle.reg_matrix.proofs.Tests.{both, both_in, passes_or_not}
 use Rattle.reg_matrix.proofs.Members.{◌∈◌, filter_out, filter_in, any_in, first_of, drop_out, fixed_uses_out, fixed_uses_in}
 use Rattle.reg_matrix.proofs.Sorted.{Sorted, sorted_filter, Ordered, OrderedTo, ordered_by_ends, insert_all_out, insert_all_old, insert_all_new, insert_all_sorted}
@@ -44,7 +43,7 @@ module _ (fixed : List Entry) (cs : List Cell) (t : Table) (c : Cell) (sd : Soun
   unfolding back fixed_index
   back_out e m = go (any covered fixed) m
     where
-      go : (b : Bool) → e ∈ uses_from us c.s (cond b (At (first_use us c.s)) NoIndex) → (e ∈ fixed) × T (covered e)
+      go : (b : Bool) → e ∈ uses_from us c.s (cond b (Some (first_use us c.s)) None) → (e ∈ fixed) × T (covered e)
       go true n =
           let k = filter_out (λ (f : Entry). ltb f.from c.s.to) (drop (first_use us c.s) us) n in
           let l = drop_out (first_use us c.s) us k.1 in (
@@ -60,7 +59,7 @@ module _ (fixed : List Entry) (cs : List Cell) (t : Table) (c : Cell) (sd : Soun
       a : (e.unit ≡ c.u) × Inside c.s e
       a = replaced→ c.u c.s e r
 
-      go : (b : Bool) → T b → e ∈ uses_from us c.s (cond b (At (first_use us c.s)) NoIndex)
+      go : (b : Bool) → T b → e ∈ uses_from us c.s (cond b (Some (first_use us c.s)) None)
       go true h =
           filter_in (λ (f : Entry). ltb f.from c.s.to) (lt→ltb e.from c.s.to (omega (arith, a.1.ahead, sd.nonempty e m)))
           (from_first_in c.s us (uses_nonempty fixed sd c.u) (sd.chain c.u) e (fixed_uses_in fixed c.u e m a.0 a.1.isuse) a.1.after)
@@ -70,9 +69,9 @@ module _ (fixed : List Entry) (cs : List Cell) (t : Table) (c : Cell) (sd : Soun
   unfolding back
   back_chain = go (fixed_index fixed c.u c.s fixed)
     where
-      go : (i : FixedIndex) → Chain (uses_from us c.s i)
-      go (At i) = chain_filter (λ (f : Entry). ltb f.from c.s.to) (drop i us) (chain_drop i us (sd.chain c.u))
-      go NoIndex = tt
+      go : (i : Option ℕ) → Chain (uses_from us c.s i)
+      go (Some i) = chain_filter (λ (f : Entry). ltb f.from c.s.to) (drop i us) (chain_drop i us (sd.chain c.u))
+      go None = tt
 
   -- ---- the cell's own entry
 

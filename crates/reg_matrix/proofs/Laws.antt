@@ -15,8 +15,7 @@ use Rattle.reg_matrix.specs.Assign.{assign, evict}
 use Rattle.reg_matrix.specs.Questions.{is_unit_free}
 use Rattle.reg_matrix.specs.declared.ValueSegment.{ValueSegment}
 use Rattle.reg_matrix.specs.declared.Entry.{Entry}
-use Rattle.reg_matrix.specs.declared.FixedIndex.{FixedIndex}
-use Rattle.reg_matrix.specs.declared.FixedIndex.TheVariants.{At}
+use Rattle.std.specs.Prelude.{Option, Some}
 use Rattle.reg_matrix.specs.declared.Reservation.TheVariants.{Held}
 use Rattle.reg_matrix.specs.declared.Interference.{Interference}
 use Rattle.reg_matrix.specs.declared.InterferenceKind.TheVariants.{VirtReg, Fixed}
@@ -38,7 +37,7 @@ pub record Matrix (fixed : List Entry) (cs : List Cell) (t : Table) : Type 0 whe
   pub table : IsTable fixed cs t
   pub joined : Joins fixed [] cs
 
-same_holder : (v w : ℕ) (i k : FixedIndex) → Held v i ≡ Held w k → v ≡ w
+same_holder : (v w : ℕ) (i k : Option ℕ) → Held v i ≡ Held w k → v ≡ w
 same_holder v w i k q = cc
 
 -- ---- what the table is
@@ -81,7 +80,7 @@ module _ (fixed : List Entry) (sd : Sound fixed) (cs : List Cell) (t : Table) (m
       let h = reported_held full fixed t m ss r w q l in
       go h.entry h.index h.held (capacity.entry_source fixed cs t mx.table h.entry h.there)
     where
-      go : (e : Entry) (i : FixedIndex) → e.reservation ≡ Held w i → (e ∈ fixed) ⊎ ((c : Cell) × capacity.OfCell fixed cs e c) → (c : Cell) × (c ∈ cs) × (c.v ≡ w)
+      go : (e : Entry) (i : Option ℕ) → e.reservation ≡ Held w i → (e ∈ fixed) ⊎ ((c : Cell) × capacity.OfCell fixed cs e c) → (c : Cell) × (c ∈ cs) × (c.v ≡ w)
       go e i p (inl f) = absurd (not_held fixed sd e f w i p)
       go e i p (inr k) = let z : k.0.v ≡ w = same_holder k.0.v w _ i (sym k.1.held_is ∙ p) in (k.0, k.1.among, z)
 
@@ -111,7 +110,7 @@ module _ (fixed : List Entry) (sd : Sound fixed) (cs : List Cell) (t : Table) (m
       → e ∈ t
       → f ∈ t
       → e.unit ≡ f.unit
-      → (v w : ℕ) (i j : FixedIndex)
+      → (v w : ℕ) (i j : Option ℕ)
       → e.reservation ≡ Held v i
       → f.reservation ≡ Held w j
       → (v ≡ w → ⊥)
@@ -137,7 +136,7 @@ module _ (fixed : List Entry) (sd : Sound fixed) (cs : List Cell) (t : Table) (m
   entry_source = capacity.entry_source fixed cs t mx.table
 
   -- a fixed index is the place of a fixed use of its unit
-  pub index_size : (e : Entry) → e ∈ t → (v i : ℕ) → e.reservation ≡ Held v (At i) → (i < length (fixed_uses fixed e.unit)) × (i < length fixed)
+  pub index_size : (e : Entry) → e ∈ t → (v i : ℕ) → e.reservation ≡ Held v (Some i) → (i < length (fixed_uses fixed e.unit)) × (i < length fixed)
   index_size e m v i q = (capacity.held_index fixed cs t sd mx.table e m v i q, capacity.held_index_fixed fixed cs t sd mx.table e m v i q)
 
 -- ---- evicting

@@ -13,8 +13,7 @@ use Rattle.reg_matrix.specs.Table.{Table, units_of, fixed_uses, on_unit}
 use Rattle.reg_matrix.specs.Check.{overlaps, own_use, shared_part, whole_use, uses_under, reports_of, counts, check_on, check}
 use Rattle.reg_matrix.specs.declared.ValueSegment.{ValueSegment}
 use Rattle.reg_matrix.specs.declared.Entry.{Entry}
-use Rattle.reg_matrix.specs.declared.FixedIndex.{FixedIndex}
-use Rattle.reg_matrix.specs.declared.FixedIndex.TheVariants.{At, NoIndex}
+use Rattle.std.specs.Prelude.{Option, Some, None}
 use Rattle.reg_matrix.specs.declared.Reservation.{Reservation}
 use Rattle.reg_matrix.specs.declared.Reservation.TheVariants.{Held, FixedUse, FixedDef}
 use Rattle.reg_matrix.specs.declared.Interference.{Interference}
@@ -26,21 +25,21 @@ use Rattle.reg_matrix.proofs.Members.{◌∈◌, filter_out, concat_out, on_unit
 pub record HeldAmong (es : List Entry) (w : ℕ) : Type 0 where
   pub entry : Entry
   pub there : entry ∈ es
-  pub index : FixedIndex
+  pub index : Option ℕ
   pub held : entry.reservation ≡ Held w index
 
 abbrev IsHeld : Reservation → ℕ → Type 0
-IsHeld k w = (i : FixedIndex) × (k ≡ Held w i)
+IsHeld k w = (i : Option ℕ) × (k ≡ Held w i)
 
 -- a report of a held entry itself, and one of a fixed use
-same_number : (k : InterferenceKind) (v w : ℕ) (i : FixedIndex) → k ≡ VirtReg v → k ≡ VirtReg w → Held v i ≡ Held w i
+same_number : (k : InterferenceKind) (v w : ℕ) (i : Option ℕ) → k ≡ VirtReg v → k ≡ VirtReg w → Held v i ≡ Held w i
 same_number k v w i p q = let e : v ≡ w = cc in ap (λ (x : ℕ). Held x i) e
 
 not_fixed : (k : InterferenceKind) (w : ℕ) → k ≡ Fixed → k ≡ VirtReg w → ⊥
 not_fixed k w p q = let z : ◌≡◌ {A = ℕ} 0 1 = cc in omega arith
 
 module _ (us : List Entry) (n : ℕ) (s : ValueSegment) (e : Entry) (x : Interference) (w : ℕ) (q : x.kind ≡ VirtReg w) where
-  own : (v : ℕ) (i : FixedIndex) → x ≡ shared_part n s e (VirtReg v) → IsHeld (Held v i) w
+  own : (v : ℕ) (i : Option ℕ) → x ≡ shared_part n s e (VirtReg v) → IsHeld (Held v i) w
   own v i p = (i, same_number x.kind v w i (ap (λ (y : Interference). y.kind) p) q)
 
   one_fixed : (k : Reservation) → x ∈ shared_part n s e Fixed ∷ [] → IsHeld k w
@@ -48,9 +47,9 @@ module _ (us : List Entry) (n : ℕ) (s : ValueSegment) (e : Entry) (x : Interfe
 
   of_entry : (k : Reservation) → x ∈ reports_of us n s e k → IsHeld k w
   unfolding reports_of uses_under
-  of_entry (Held v NoIndex) m = own v NoIndex (Memᴰ.eq_of_singleton m)
-  of_entry (Held v (At i)) (Memᴰ.head p) = own v (At i) p
-  of_entry (Held v (At i)) (Memᴰ.tail m) =
+  of_entry (Held v None) m = own v None (Memᴰ.eq_of_singleton m)
+  of_entry (Held v (Some i)) (Memᴰ.head p) = own v (Some i) p
+  of_entry (Held v (Some i)) (Memᴰ.tail m) =
       let f = Memᴰ.of_map (whole_use n) (filter (λ (f : Entry). overlaps s f && not (own_use s f.reservation)) (drop i us)) m in
       absurd (not_fixed x.kind w (ap (λ (y : Interference). y.kind) (sym f.2)) q)
   of_entry (FixedUse y) m = go (eqb y s.value) m

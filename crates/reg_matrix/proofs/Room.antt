@@ -14,8 +14,7 @@ use Rattle.reg_matrix.specs.Check.{overlaps, indexed, own_use, shared_part, whol
 use Rattle.reg_matrix.specs.Assign.{replaced, first_use, fixed_index}
 use Rattle.reg_matrix.specs.declared.ValueSegment.{ValueSegment}
 use Rattle.reg_matrix.specs.declared.Entry.{Entry}
-use Rattle.reg_matrix.specs.declared.FixedIndex.{FixedIndex}
-use Rattle.reg_matrix.specs.declared.FixedIndex.TheVariants.{At, NoIndex}
+use Rattle.std.specs.Prelude.{Option, Some, None}
 use Rattle.reg_matrix.specs.declared.Reservation.{Reservation}
 use Rattle.reg_matrix.specs.declared.Reservation.TheVariants.{Held, FixedUse, FixedDef}
 use Rattle.reg_matrix.specs.declared.Interference.{Interference}
@@ -108,24 +107,24 @@ module _ (full : Bool) (us es : List Entry) (e : Entry) (m : e ∈ es) where
           let k = ih (none_yet q) l in
           (k.0, Memᴰ.tail k.1, k.2, (k.3.0, λ r a. later n earlier y ys r (k.3.1 r a)))
 
-held_reported : (us : List Entry) (n : ℕ) (s : ValueSegment) (e : Entry) (v : ℕ) (i : FixedIndex) → shared_part n s e (VirtReg v) ∈ reports_of us n s e (Held v i)
+held_reported : (us : List Entry) (n : ℕ) (s : ValueSegment) (e : Entry) (v : ℕ) (i : Option ℕ) → shared_part n s e (VirtReg v) ∈ reports_of us n s e (Held v i)
 unfolding reports_of
-held_reported us n s e v NoIndex = Memᴰ.head refl
-held_reported us n s e v (At i) = Memᴰ.head refl
+held_reported us n s e v None = Memᴰ.head refl
+held_reported us n s e v (Some i) = Memᴰ.head refl
 
 use_reported :
     (us : List Entry) (n : ℕ) (s : ValueSegment) (e f : Entry) (v i : ℕ)
     → f ∈ drop i us
     → T (overlaps s f)
     → T (not (own_use s f.reservation))
-    → whole_use n f ∈ reports_of us n s e (Held v (At i))
+    → whole_use n f ∈ reports_of us n s e (Held v (Some i))
 unfolding reports_of uses_under
 use_reported us n s e f v i m o w =
     Memᴰ.tail
     (Memᴰ.map (whole_use n)
     (filter_in (λ (f : Entry). overlaps s f && not (own_use s f.reservation)) (both_in (overlaps s f) (not (own_use s f.reservation)) o w) m))
 
-own_or_fixed : (us : List Entry) (n : ℕ) (s : ValueSegment) (e : Entry) (k : Reservation) → ((v : ℕ) (i : FixedIndex) → k ≡ Held v i → ⊥) → T (own_use s k) ⊎ (shared_part n s e Fixed ∈ reports_of us n s e k)
+own_or_fixed : (us : List Entry) (n : ℕ) (s : ValueSegment) (e : Entry) (k : Reservation) → ((v : ℕ) (i : Option ℕ) → k ≡ Held v i → ⊥) → T (own_use s k) ⊎ (shared_part n s e Fixed ∈ reports_of us n s e k)
 unfolding reports_of
 own_or_fixed us n s e (Held v i) w = absurd (w v i refl)
 own_or_fixed us n s e (FixedUse x) w = go (eqb x s.value)
@@ -201,11 +200,11 @@ module _
       us = fixed_uses fixed d.u
 
       x : Entry
-      x = record { unit = d.u; from = d.s.from; to = d.s.to; reservation = Held d.v (At (first_use us d.s)) }
+      x = record { unit = d.u; from = d.s.from; to = d.s.to; reservation = Held d.v (Some (first_use us d.s)) }
 
       x_is : entry_for fixed d ≡ x
       x_is =
-          ap (λ (z : Bool). record { unit = d.u; from = d.s.from; to = d.s.to; reservation = Held d.v (cond z (At (first_use us d.s)) NoIndex) })
+          ap (λ (z : Bool). record { unit = d.u; from = d.s.from; to = d.s.to; reservation = Held d.v (cond z (Some (first_use us d.s)) None) })
           (same_test (any (replaced d.u d.s) fixed) true (λ h. tt) (λ h. any_in (replaced d.u d.s) r n))
 
       x_in : x ∈ on_unit d.u t

@@ -6,8 +6,7 @@ use Rattle.reg_matrix.specs.Lists.{filter, any, first, foldl}
 use Rattle.reg_matrix.specs.Table.{Table, units_of, is_use, fixed_uses, insert, insert_all}
 use Rattle.reg_matrix.specs.declared.ValueSegment.{ValueSegment}
 use Rattle.reg_matrix.specs.declared.Entry.{Entry}
-use Rattle.reg_matrix.specs.declared.FixedIndex.{FixedIndex}
-use Rattle.reg_matrix.specs.declared.FixedIndex.TheVariants.{At, NoIndex}
+use Rattle.std.specs.Prelude.{Option as Maybe, Some, None}
 use Rattle.reg_matrix.specs.declared.Reservation.{Reservation}
 use Rattle.reg_matrix.specs.declared.Reservation.TheVariants.{Held, FixedUse, FixedDef}
 
@@ -22,8 +21,8 @@ unfoldable pub first_use : List Entry → ValueSegment → ℕ
 first_use uses s = length (filter (λ f. ltb f.from s.from) uses)
 
 -- 01, "Placing": "or no index if it replaced none"
-unfoldable pub fixed_index : List Entry → ℕ → ValueSegment → Table → FixedIndex
-fixed_index fixed u s t = cond (any (replaced u s) t) (At (first_use (fixed_uses fixed u) s)) NoIndex
+unfoldable pub fixed_index : List Entry → ℕ → ValueSegment → Table → Maybe ℕ
+fixed_index fixed u s t = cond (any (replaced u s) t) (Some (first_use (fixed_uses fixed u) s)) None
 
 -- 01, "Placing": a segment on the unit u "replaces the fixed uses inside it by one entry"
 unfoldable pub assign_segment : List Entry → ℕ → ℕ → Table → ValueSegment → Table
@@ -47,15 +46,15 @@ abbrev pub entry_of : ℕ → ℕ → ValueSegment → Entry → Bool
 entry_of v u s e = eqb e.unit u && (eqb e.to s.to && held_by v e.reservation)
 
 -- 01, "Evicting": the index of an entry that is removed
-abbrev pub index_of : Reservation → FixedIndex
+abbrev pub index_of : Reservation → Maybe ℕ
 index_of (Held w i) = i
-index_of (FixedUse x) = NoIndex
-index_of FixedDef = NoIndex
+index_of (FixedUse x) = None
+index_of FixedDef = None
 
 -- 01, "Evicting": the fixed uses that an entry of this index stands for
-abbrev pub uses_from : List Entry → ValueSegment → FixedIndex → List Entry
-uses_from uses s NoIndex = []
-uses_from uses s (At i) = filter (λ f. ltb f.from s.to) (drop i uses)
+abbrev pub uses_from : List Entry → ValueSegment → Maybe ℕ → List Entry
+uses_from uses s None = []
+uses_from uses s (Some i) = filter (λ f. ltb f.from s.to) (drop i uses)
 
 -- 01, "Evicting": the uses that go back for the entry, where there is one
 abbrev pub put_back : List Entry → ValueSegment → Option Entry → List Entry

@@ -5,7 +5,7 @@ use Rattle.reg_matrix.specs.Lists.{filter, any, concat_map}
 use Rattle.reg_matrix.specs.Table.{Table, units_of, fixed_uses, on_unit}
 use Rattle.reg_matrix.specs.declared.ValueSegment.{ValueSegment}
 use Rattle.reg_matrix.specs.declared.Entry.{Entry}
-use Rattle.reg_matrix.specs.declared.FixedIndex.TheVariants.{At, NoIndex}
+use Rattle.std.specs.Prelude.{Some, None}
 use Rattle.reg_matrix.specs.declared.Reservation.{Reservation}
 use Rattle.reg_matrix.specs.declared.Reservation.TheVariants.{Held, FixedUse, FixedDef}
 use Rattle.reg_matrix.specs.declared.Interference.{Interference}
@@ -18,8 +18,8 @@ overlaps s e = ltb e.from s.to && ltb s.from e.to
 
 -- 01, "Check": held, with a fixed index
 abbrev pub indexed : Reservation → Bool
-indexed (Held v NoIndex) = false
-indexed (Held v (At i)) = true
+indexed (Held v None) = false
+indexed (Held v (Some i)) = true
 indexed (FixedUse x) = false
 indexed FixedDef = false
 
@@ -44,8 +44,8 @@ uses_under uses n s i = map (whole_use n) (filter (λ f. overlaps s f && not (ow
 
 -- 01, "Check": the reports of a segment and an entry that it overlaps
 unfoldable pub reports_of : List Entry → ℕ → ValueSegment → Entry → Reservation → List Interference
-reports_of uses n s e (Held v NoIndex) = shared_part n s e (VirtReg v) ∷ []
-reports_of uses n s e (Held v (At i)) = shared_part n s e (VirtReg v) ∷ uses_under uses n s i
+reports_of uses n s e (Held v None) = shared_part n s e (VirtReg v) ∷ []
+reports_of uses n s e (Held v (Some i)) = shared_part n s e (VirtReg v) ∷ uses_under uses n s i
 reports_of uses n s e (FixedUse x) = cond (eqb x s.value) [] (shared_part n s e Fixed ∷ [])
 reports_of uses n s e FixedDef = shared_part n s e Fixed ∷ []
 

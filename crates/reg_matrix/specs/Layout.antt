@@ -5,8 +5,7 @@ use Rattle.std.specs.Prelude.{ℕ, ◌+◌, ◌*◌, ◌^◌, ◌-◌, ◌/◌, 
 use Rattle.reg_matrix.specs.Lists.{concat_map, count, padded}
 use Rattle.reg_matrix.specs.Table.{Table, fixed_uses}
 use Rattle.reg_matrix.specs.declared.Entry.{Entry}
-use Rattle.reg_matrix.specs.declared.FixedIndex.{FixedIndex}
-use Rattle.reg_matrix.specs.declared.FixedIndex.TheVariants.{At, NoIndex}
+use Rattle.std.specs.Prelude.{Option, Some, None}
 use Rattle.reg_matrix.specs.declared.Reservation.{Reservation}
 use Rattle.reg_matrix.specs.declared.Reservation.TheVariants.{Held, FixedUse, FixedDef}
 
@@ -27,9 +26,9 @@ abbrev pub end_word : Entry → ℕ
 end_word e = e.unit * 2 ^ 32 + e.to
 
 -- layout: a fixed index or none, below 2^16
-abbrev pub index_word : FixedIndex → ℕ
-index_word NoIndex = 0
-index_word (At i) = i + 1
+abbrev pub index_word : Option ℕ → ℕ
+index_word None = 0
+index_word (Some i) = i + 1
 
 -- layout: a def, a use of a value, or who holds it with its index
 abbrev pub reservation_word : Reservation → ℕ
@@ -68,8 +67,8 @@ use_words fixed = padded max_fixed greatest (map use_word (concat_map (fixed_use
 -- ---- and back: what any two numbers stand for
 
 -- layout: the index that a number stands for
-abbrev pub index_from : ℕ → FixedIndex
-index_from i = cond (eqb i 0) NoIndex (At (i - 1))
+abbrev pub index_from : ℕ → Option ℕ
+index_from i = cond (eqb i 0) None (Some (i - 1))
 
 -- layout: the reservation that a number stands for
 unfoldable pub reservation_of : ℕ → Reservation

@@ -1,5 +1,6 @@
 pub mod Lists
 pub mod Refusals
+pub mod Refused
 pub mod Table
 pub mod Check
 pub mod Assign

@@ -4,8 +4,7 @@ use Rattle.std.specs.Prelude.{ℕ, zero, suc, ◌+◌, ◌/◌, ◌%◌, List, [
 use Rattle.reg_matrix.specs.Lists.{ascii, concat_map}
 use Rattle.reg_matrix.specs.Table.{Table}
 use Rattle.reg_matrix.specs.declared.Entry.{Entry}
-use Rattle.reg_matrix.specs.declared.FixedIndex.{FixedIndex}
-use Rattle.reg_matrix.specs.declared.FixedIndex.TheVariants.{At, NoIndex}
+use Rattle.std.specs.Prelude.{Option, Some, None}
 use Rattle.reg_matrix.specs.declared.Reservation.{Reservation}
 use Rattle.reg_matrix.specs.declared.Reservation.TheVariants.{Held, FixedUse, FixedDef}
 use Rattle.reg_matrix.specs.declared.Interference.{Interference}
@@ -36,9 +35,9 @@ refused_line n = line (ascii "refused " ++ number n)
 -- ---- `u U FROM TO held N I`, `u U FROM TO use V`, `u U FROM TO def`
 
 -- 01, "The printed sheet": "I the fixed index or `-`"
-abbrev pub index_text : FixedIndex → List ℕ
-index_text NoIndex = ascii "-"
-index_text (At i) = number i
+abbrev pub index_text : Option ℕ → List ℕ
+index_text None = ascii "-"
+index_text (Some i) = number i
 
 -- 01, "The printed sheet": `held N I`, `use V`, `def`
 unfoldable pub reservation_text : Reservation → List ℕ

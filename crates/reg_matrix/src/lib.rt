@@ -2,6 +2,9 @@
 // These are the types that the definitions and every contract above speak of.
 #![tactic(auto)]
 
+ghost use Rattle.std.specs.Prelude.{◌≡◌};
+ghost use Rattle.reg_matrix.specs.Refused.{number_of};
+
 // 01, "The job": a part of a virtual register's live range, half-open, with the value that lives in it. A point's low two bits are its slot.
 #[derive(Clone, Copy)]
 pub struct ValueSegment {
@@ -10,17 +13,11 @@ pub struct ValueSegment {
     pub value: u16,
 }
 
-// 01, "Placing": the place of a fixed use among the fixed uses of its unit, if a held entry has replaced any.
-#[derive(Clone, Copy)]
-pub enum FixedIndex {
-    At(u16),
-    NoIndex,
-}
-
-// 01, "The printed sheet": who an entry is for: a virtual register, a fixed use of a value, or a fixed def.
+// 01, "The printed sheet": who an entry is for: a virtual register, a fixed use of a value, or a fixed def. A held one has an index where it has
+// replaced fixed uses (01, "Placing"): the place of the first among the fixed uses of its unit.
 #[derive(Clone, Copy)]
 pub enum Reservation {
-    Held(u16, FixedIndex),
+    Held(u16, Option<u16>),
     FixedUse(u16),
     FixedDef,
 }
@@ -49,4 +46,33 @@ pub struct Interference {
     pub from: u32,
     pub to: u32,
     pub kind: InterferenceKind,
+}
+
+// 01, "What the stage answers": why a call is refused, in the paper's words and by its numbers.
+#[derive(Clone, Copy, PartialEq, Eq, Debug)]
+pub enum Refusal {
+    ShortJob = 1,
+    Tail = 2,
+    UnfitMap = 3,
+    OverLimit = 4,
+    Empty = 5,
+    BadPoint = 6,
+    Unsorted = 7,
+    UnknownNumber = 8,
+    BadWeight = 9,
+    Twin = 10,
+    MixedSet = 11,
+    CutUse = 12,
+    WrongStanding = 13,
+    Interference = 14,
+    ShortBuffer = 15,
+}
+
+impl Refusal {
+    // 01, "What the stage answers": "a refusal returns its number alone".
+    pub fn number(self) -> u64
+        ensures { result ≡ number_of self }
+    {
+        self as u64
+    }
 }

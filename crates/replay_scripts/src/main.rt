@@ -7,22 +7,18 @@ use scripts::run_script;
 // Reads the next script and prints its transcript, and answers whether there was one.
 fn replay() -> bool {
     let mut four: u64 = 4;
-    let mut length: u64 = 0;
-    if !read_number(&mut four, 4, &mut length) {
+    let Some(length) = read_number(&mut four, 4) else {
         return false;
-    }
+    };
     run_script(length);
     true
 }
 
-// A proved loop has to end, and nothing says that an input does. So this one counts down from a number that no input uses up.
-fn replay_all() {
-    let mut turns = u64::MAX;
-    while turns > 0 && replay() {
-        turns -= 1;
-    }
-}
-
 fn main() {
-    replay_all();
+    // a proved loop has to end, and nothing says that an input does: no input has as many scripts
+    for _ in 0..u64::MAX {
+        if !replay() {
+            return;
+        }
+    }
 }

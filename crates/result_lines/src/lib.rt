@@ -2,14 +2,28 @@
 // a lent line. What a line has no room for is not stored.
 #![tactic(auto)]
 
+ghost use Rattle.std.specs.Prelude.{◌≡◌};
 ghost use Rattle.reg_matrix.specs.Lines.{refused_line};
 ghost use Rattle.allocator.specs.Sheet.{end_word, end_line, standing as standing_of};
 ghost use Rattle.texts.specs.Texts.{Stored};
-ghost use Rattle.result_lines.specs.ResultTexts.{standing_text};
+ghost use Rattle.result_lines.specs.ResultTexts.{standing_text, ending_in};
 
 use allocator::{Assignment, Ending};
 use texts::{byte, number, spaced, text};
 
+// How a run ended, by its word's number: 1 done, 2 spent, and any other toomany. C and the answers of a list of calls have the word as this number.
+#[tactic(auto, unfolding(crate::specs::ResultTexts::ending_in))]
+pub fn ending_of(n: u64) -> Ending
+    ensures { result ≡ ending_in n }
+{
+    match n {
+        1 => Ending::Done,
+        2 => Ending::Spent,
+        _ => Ending::TooMany,
+    }
+}
+
+#[tactic(auto, unfolding(reg_matrix::specs::Lists::ascii))]
 fn end_word(line: &mut [u8], at: usize, ending: Ending) -> usize
     ensures { Stored line.old at (end_word ending) line.new result }
 {
@@ -39,21 +53,16 @@ pub fn refused_line(line: &mut [u8], n: u64) -> usize
     byte(line, b, b'\n')
 }
 
+#[tactic(auto, unfolding(reg_matrix::specs::Lists::ascii))]
 fn standing(line: &mut [u8], at: usize, assignment: Assignment) -> usize
     ensures { Stored line.old at (standing_of assignment) line.new result }
 {
     match assignment {
-        Assignment::Assigned {
-            evicted_for_preference: _,
-            reg,
-            preference_weight: _,
-        } => {
+        Assignment::Assigned { reg, .. } => {
             let next = text(line, at, b" reg ");
             number(line, next, reg as u64)
         }
-        Assignment::Unassigned {
-            evicted_for_preference: _,
-        } => text(line, at, b" wait"),
+        Assignment::Unassigned { .. } => text(line, at, b" wait"),
         Assignment::Dead => text(line, at, b" left"),
     }
 }

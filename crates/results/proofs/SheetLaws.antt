@@ -7,14 +7,13 @@ use mathlib.Core.List.{List, ◌∷◌}
 use mathlib.Core.Bool.{Bool, true, false, not, cond, ◌&&◌}
 use lib.Dec.{ltb, leb, eqb}
 use lib.ListN.{length, get_or}
-use borrow.Author.Tests.{lt-ltb, lt-leb, ltb-true}
+use borrow.Author.Tests.{lt-ltb, le-ltb, lt-leb, ltb-true, ne_eqb}
 use Rattle.reg_matrix.specs.Layout.{max_entries, greatest}
 use Rattle.reg_matrix.proofs.Places.{from_zero}
 use Rattle.job.specs.Model.{Job}
 use Rattle.job.specs.Layout.{header_of}
 use Rattle.job.specs.declared.JobHeader.{JobHeader}
-use Rattle.job.specs.declared.Probe.{Probe}
-use Rattle.job.specs.declared.Probe.TheVariants.{Over, NoProbe}
+use Rattle.std.specs.Prelude.{Option, Some, None, Ok, Err}
 use Rattle.allocator.specs.declared.Assignment.{Assignment}
 use Rattle.allocator.specs.declared.Assignment.TheVariants.{Dead}
 use Rattle.allocator.specs.declared.Ending.{Ending}
@@ -34,10 +33,10 @@ use Rattle.listing.proofs.LineLaws.{number_small, lines_told}
 use Rattle.listing.proofs.SheetLaws.{Laid, together, reached_sheet}
 use Rattle.record_words.specs.Words.{record_in, records_in}
 use Rattle.record_words.proofs.WordLaws.{record_in_lem}
-use Rattle.words.specs.Words.{header_in, ending_in, place_number, place_in, standing_number}
+use Rattle.result_lines.specs.ResultTexts.{ending_in}
+use Rattle.words.specs.Words.{header_in, place_number, place_in, standing_number}
 use Rattle.words.specs.Words.{words_short}
-use Rattle.results.specs.Reading.{standing_answer, listing_in, found_in, lines_at, lines_after}
-use Rattle.words.proofs.NumberLaws.{at_virt_reg, at_entry}
+use Rattle.results.specs.Reading.{standing_found, either, standing_answer, listing_in, found_in, lines_at, lines_after}
 use Rattle.results.proofs.ReadLaws.{place_is}
 
 -- ---- records
@@ -55,12 +54,12 @@ pub standing_is :
     → words_short head ws ≡ false
     → v < length j.virt_regs
     → standing_answer head ws v ≡ standing_number (record_of s v)
-unfolding standing_answer header_of
+unfolding standing_answer standing_found header_of
 standing_is j s head ws v reach eh er long h =
     let small : v < 512 = omega (arith, h, (good_reached j s reach).premises.few_numbers) in
     let known : leb (header_in head).virt_regs v ≡ false = ap (λ (x : JobHeader). leb x.virt_regs v) eh ∙ lt-leb (length j.virt_regs) v h in
-    ap (λ (b : Bool). cond b 15 (cond (leb (header_in head).virt_regs v) 8 (standing_number (record_in (get_or ws v 0))))) long
-    ∙ ap (λ (b : Bool). cond b 8 (standing_number (record_in (get_or ws v 0)))) known
+    ap (λ (b : Bool). either (cond b (Err 15) (cond (leb (header_in head).virt_regs v) (Err 8) (Ok (standing_number (record_in (get_or ws v 0))))))) long
+    ∙ ap (λ (b : Bool). either (cond b (Err 8) (Ok (standing_number (record_in (get_or ws v 0)))))) known
     ∙ ap standing_number (sym (record_in_lem ws v small) ∙ ap (λ (l : List Assignment). get_or l v Dead) er ∙ record_of_lem s v small)
 
 -- ---- positions
@@ -71,24 +70,24 @@ Back no_more = Unit {0}
 Back (a_line text p) = place_in (place_number p) ≡ p
 
 back_virt_reg : (v : ℕ) → v < 65536 → place_in (1 + v) ≡ VirtReg v
+unfolding place_in
 back_virt_reg v h =
     let e : 1 + v - 1 ≡ v = omega arith in
-    sym (at_virt_reg (1 + v) (λ z. omega (arith, z)) (omega arith)) ∙ ap VirtReg e
+    rw (ne_eqb (1 + v) 0 (λ z. omega (arith, z)), lt-ltb (1 + v) 65537 (omega arith)) (ap VirtReg e)
 
 back_entry : (i : ℕ) → i < 2561 → place_in (place_number (Entry i)) ≡ Entry i
+unfolding place_in
 back_entry i h =
     let e : 65537 + i - 65537 ≡ i = omega arith in
-    ap (λ (b : Bool). place_in (cond b (65537 + i) greatest)) (lt-ltb i 2561 h)
-    ∙ sym (at_entry (65537 + i) (λ z. omega (arith, z)) (omega arith) (λ z. omega (arith, z)))
-    ∙ ap Entry e
+    rw (lt-ltb i 2561 h, ne_eqb (65537 + i) 0 (λ z. omega (arith, z)), le-ltb (65537 + i) 65537 (omega arith), ne_eqb (65537 + i) greatest (λ z. omega (arith, z))) (ap Entry e)
 
 back_end : place_in greatest ≡ End
 unfolding place_in
 back_end = refl
 
-spare_back : (p : Probe) (n : ℕ) (l : Lent) → Back (spare_found p n l)
-spare_back NoProbe n l = tt
-spare_back (Over a b) n l = back_end
+spare_back : (p : Option (ℕ × ℕ)) (n : ℕ) (l : Lent) → Back (spare_found p n l)
+spare_back None n l = tt
+spare_back (Some (a, b)) n l = back_end
 
 both_true : (a b : Bool) → (a && b) ≡ true → a ≡ true
 both_true true b e = refl

@@ -1,19 +1,26 @@
 -- Results read from lent words: how a virtual register stands, and the sheet's lines by a position that is a number. Assumes nothing.
-use Rattle.std.specs.Prelude.{ℕ, ◌≡◌, List, [], ◌∷◌, Bool, cond, ◌||◌, ltb, leb, length, get_or}
+use Rattle.std.specs.Prelude.{ℕ, ◌≡◌, List, [], ◌∷◌, Bool, cond, ◌||◌, ltb, leb, length, get_or, Option, Some, None, Result, Ok, Err}
 use Rattle.std.proofs.lemmas.List.Edits.{sets}
 use Rattle.reg_matrix.specs.Layout.{greatest}
 use Rattle.listing.specs.declared.Listing.{Listing}
-use Rattle.listing.specs.declared.Step.{Step}
-use Rattle.listing.specs.declared.Step.TheVariants.{Line, Refused, End}
 use Rattle.lines.specs.LineTexts.{Lent}
 use Rattle.listing.specs.Walk.{Found, no_more, a_line, line_limit, found, printed_on, number_at, lines_from}
+use Rattle.result_lines.specs.ResultTexts.{ending_in}
 use Rattle.record_words.specs.Words.{record_in, records_in}
-use Rattle.words.specs.Words.{words_short, header_in, ending_in, place_in, place_number, standing_number}
+use Rattle.words.specs.Words.{words_short, header_in, place_in, place_number, standing_number}
 
 -- 15 where a slice is short, 8 where v is no number, or how its record stands
+unfoldable pub standing_found : List ℕ → List ℕ → ℕ → Result ℕ ℕ
+standing_found head ws v =
+    cond (words_short head ws) (Err 15) (cond (leb (header_in head).virt_regs v) (Err 8) (Ok (standing_number (record_in (get_or ws v 0)))))
+
+-- the same as one number, which C reads
+abbrev pub either : Result ℕ ℕ → ℕ
+either (Ok n) = n
+either (Err n) = n
+
 unfoldable pub standing_answer : List ℕ → List ℕ → ℕ → ℕ
-standing_answer head ws v =
-    cond (words_short head ws) 15 (cond (leb (header_in head).virt_regs v) 8 (standing_number (record_in (get_or ws v 0))))
+standing_answer head ws v = either (standing_found head ws v)
 
 -- the position in the sheet of a run that answered so
 unfoldable pub listing_in : List ℕ → List ℕ → ℕ → Listing
@@ -24,16 +31,10 @@ abbrev pub next_words : Found → List ℕ
 next_words no_more = 0 ∷ greatest ∷ []
 next_words (a_line text p) = length text ∷ place_number p ∷ []
 
--- the same of the step that found it, which may refuse a short line
-abbrev pub step_words : Step → List ℕ
-step_words (Line n c) = n ∷ place_number c.place ∷ []
-step_words End = 0 ∷ greatest ∷ []
-step_words (Refused n) = []
-
-abbrev pub step_refusal : Step → ℕ
-step_refusal (Line n c) = 0
-step_refusal End = 0
-step_refusal (Refused n) = n
+-- the same of the line that was stored, and the position after it
+abbrev pub step_words : Option (ℕ × Listing) → List ℕ
+step_words (Some (n, c)) = n ∷ place_number c.place ∷ []
+step_words None = 0 ∷ greatest ∷ []
 
 -- one of the slices is short
 abbrev pub line_short : List ℕ → List ℕ → List ℕ → List ℕ → List ℕ → Bool

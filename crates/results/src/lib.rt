@@ -4,70 +4,64 @@
 ghost use Rattle.std.specs.Prelude.{◌≡◌};
 ghost use Rattle.std.proofs.lemmas.List.Edits.{sets};
 ghost use Rattle.lines.specs.LineTexts.{lent};
-ghost use Rattle.results.specs.Reading.{standing_answer, listing_in, step_refusal, step_words, LineCalled};
+ghost use Rattle.reg_matrix.specs.Refused.{numbered, number_in};
+ghost use Rattle.results.specs.Reading.{standing_found, listing_in, step_words, LineCalled};
 
 use lent::{at, put};
-use listing::{Listing, Step};
+use listing::Listing;
 use record_words::record_of;
+use reg_matrix::Refusal;
+use result_lines::ending_of;
 use words::header::{header_of, short_words};
-use words::numbers::{
-    ending_of, place_number, place_of, size_number, standing_number, wide, wide16,
-};
+use words::numbers::{place_number, place_of, standing_number};
 
 // How the virtual register v stands: 0 it waits, 1 it is left over, 256 + r it holds the register r. Refused with 15 where a slice is short, with 8
 // where there is no such number.
-pub fn standing(header: &[u64], records: &[u64], v: u64) -> u64
-    ensures { result ≡ standing_answer header.now records.now v }
+#[tactic(auto, unfolding(crate::specs::Reading::standing_found))]
+pub fn standing(header: &[u64], records: &[u64], v: u64) -> Result<u64, Refusal>
+    ensures { numbered result ≡ standing_found header.now records.now v }
 {
     if short_words(header, records) {
-        return 15;
+        return Err(Refusal::ShortBuffer);
     }
-    let known = header_of(header);
-    if wide16(known.virt_regs) <= v {
-        return 8;
+    if header_of(header).virt_regs as u64 <= v {
+        return Err(Refusal::UnknownNumber);
     }
-    standing_number(record_of(at(records, v as usize)))
+    Ok(standing_number(record_of(at(records, v as usize))))
 }
 
 // The position in the sheet that a number stands for.
+#[tactic(auto, unfolding(crate::specs::Reading::listing_in))]
 fn listing_of(header: &[u64], answer: &[u64], position: u64) -> Listing
     ensures { result ≡ listing_in header.now answer.now position }
 {
-    let ending = ending_of(at(answer, 0));
-    let dequeues = at(answer, 1);
-    let known = header_of(header);
-    let place = place_of(position);
     Listing {
-        ending,
-        dequeues,
-        header: known,
-        place,
+        ending: ending_of(at(answer, 0)),
+        dequeues: at(answer, 1),
+        header: header_of(header),
+        place: place_of(position),
     }
 }
 
 // Stores the words of what was found: the line's length and the position after it, or that there is none.
-fn store_next(step: Step, next: &mut [u64]) -> u64
-    ensures { (result ≡ step_refusal step) × (next.new ≡ sets next.old 0 (step_words step)) }
+fn store_next(found: Option<(usize, Listing)>, next: &mut [u64])
+    ensures { next.new ≡ sets next.old 0 (step_words found) }
 {
-    match step {
-        Step::Line(length, after) => {
-            put(next, 0, size_number(length));
-            let place = after.place;
-            put(next, 1, place_number(place));
-            0
+    match found {
+        Some((length, after)) => {
+            put(next, 0, length as u64);
+            put(next, 1, place_number(after.place));
         }
-        Step::End => {
+        None => {
             put(next, 0, 0);
-            put(next, 1, 0xFFFF_FFFF_FFFF_FFFF);
-            0
+            put(next, 1, u64::MAX);
         }
-        Step::Refused(n) => wide(n),
     }
 }
 
 // Stores the line of the sheet at this position from the front of `line`, and its length and the position after it in `next`; past the last line the
-// length is 0 and the position 2^64 - 1. Positions start at 0. `answer` is what the run answered, its word's number and its dequeues. The answer is 0,
-// or 15 where a slice is short, and then nothing is changed.
+// length is 0 and the position 2^64 - 1. Positions start at 0. `answer` is what the run answered, its word's number and its dequeues. Refused with 15
+// where a slice is short, and then nothing is changed.
 pub fn sheet_line(
     header: &[u64],
     records: &[u64],
@@ -78,20 +72,15 @@ pub fn sheet_line(
     rests: &[u64],
     line: &mut [u8],
     next: &mut [u64],
-) -> u64
-    ensures { LineCalled header.now records.now answer.now position (lent maps.now ends.now rests.now) line.old next.old line.new next.new result }
+) -> Result<(), Refusal>
+    ensures { LineCalled header.now records.now answer.now position (lent maps.now ends.now rests.now) line.old next.old line.new next.new (number_in result) }
 {
-    if short_words(header, records) {
-        return 15;
-    }
-    if answer.len() < 2 {
-        return 15;
-    }
-    if next.len() < 2 {
-        return 15;
+    if short_words(header, records) || answer.len() < 2 || next.len() < 2 {
+        return Err(Refusal::ShortBuffer);
     }
     let listing = listing_of(header, answer, position);
-    let word = at(records, listing.number());
-    let step = listing.next(record_of(word), maps, ends, rests, line);
-    store_next(step, next)
+    let record = record_of(at(records, listing.number()));
+    let found = listing.next(record, maps, ends, rests, line)?;
+    store_next(found, next);
+    Ok(())
 }

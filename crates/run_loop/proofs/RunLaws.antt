@@ -23,16 +23,14 @@ use Rattle.allocator.proofs.Agrees.{queued_at}
 use Rattle.allocator.proofs.Runs.{next_queued}
 use Rattle.allocator.proofs.Good.{good_reached, reached_dequeue}
 use Rattle.queue.specs.QueueWalk.{decoded, next_number}
-use Rattle.queue.specs.declared.Next.{Next}
-use Rattle.queue.specs.declared.Next.TheVariants.{Nobody, Number}
 use Rattle.stage.proofs.QueueLaws.{tournament_length, greatest_next}
 use Rattle.records.specs.Fields.{flag_in}
 use Rattle.record_words.specs.Words.{record_in, held_in, WordsOf}
-use Rattle.decisions.specs.declared.Fate.{Fate}
-use Rattle.decisions.specs.declared.Fate.TheVariants.{Leaves, Takes, Evicts, Splits, Fails}
 use Rattle.decisions.specs.declared.Decided.{Decided}
+use Rattle.decisions.specs.declared.Decided.TheVariants.{Leaves, Takes, Evicts, Splits, Fails}
+use Rattle.std.proofs.Common.{Some, None}
 use Rattle.job_parts.specs.Shares.{class_in}
-use Rattle.decisions.specs.Deciding.{decision_by, decision_of, decided_in}
+use Rattle.decisions.specs.Deciding.{decision_of, decided_in}
 use Rattle.moves.specs.Standing.{Stands}
 use Rattle.moves.specs.Moving.{wide_lists}
 use Rattle.context.specs.Carrying.{CarriedOut}
@@ -43,20 +41,30 @@ use Rattle.run_loop.specs.Running.{is_fails, is_over, LentTo, DequeueMade, RunMa
 
 -- ---- a dequeue
 
--- whether a step ends the run, by the fate
-over_by : (j : Job) (s : State) (v : ℕ) (d : Decided) (f : Fate) → is_fails f ≡ is_over (carry_out j s v (decision_by f d))
+-- whether a step ends the run, by what is decided
+over_by : (j : Job) (s : State) (v : ℕ) (d : Decided) → is_fails d ≡ is_over (carry_out j s v (decision_of d))
 unfolding carry_out
-over_by j s v d Leaves = refl
-over_by j s v d Takes = refl
-over_by j s v d Evicts = refl
-over_by j s v d Splits = refl
-over_by j s v d Fails = refl
+over_by j s v Leaves = refl
+over_by j s v (Takes c) = refl
+over_by j s v (Evicts c f gone) = refl
+over_by j s v Splits = refl
+over_by j s v Fails = refl
+
+pub fails_over : (d : Decided) → d ≡ Fails → true ≡ is_fails d
+fails_over d e = rw e
+
+pub others_on : (d : Decided) → (d ≡ Fails → ⊥) → false ≡ is_fails d
+others_on Leaves n = refl
+others_on (Takes c) n = refl
+others_on (Evicts c f gone) n = refl
+others_on Splits n = refl
+others_on Fails n = absurd (n refl)
 
 pub dequeue_made :
     (v : ℕ) (q : Stage) (B : JobSlices) (S : StateBuffers) (W : List ℕ) (S' : StateBuffers) (W' : List ℕ) (d : Decided) (over : Bool)
     → (length (class_in (lists_in B) v) ≤ 64 → d ≡ decided_in (lists_in B) S.ends S.rests S.last (held_in W) (flag_in (record_in (get_or W v 0))) v q)
     → CarriedOut d v (wide_lists B) S.ends S.rests S.queue S.last W S'.ends S'.rests S'.queue S'.last W'
-    → over ≡ is_fails d.fate
+    → over ≡ is_fails d
     → DequeueMade v q (lists_in B) S W S' W' over
 unfolding dequeue
 dequeue_made v q B S W S' W' d over says carried e =
@@ -68,7 +76,7 @@ dequeue_made v q B S W S' W' d over says carried e =
           l.stands.moves.table l.stands.last_is l.records_are in
           let is-it : decision_of d ≡ decide j s v q = ap decision_of (says dec.0) ∙ dec.1 in
           let after = carried.reached j s t q l.reached (evict_reads j B l.job_stands) (take_reads j B l.job_stands) l.stands l.records_are queued is-it in
-          (after.0, after.1, e ∙ over_by j s v d d.fate ∙ ap (λ z. is_over (carry_out j s v z)) is-it);
+          (after.0, after.1, e ∙ over_by j s v d ∙ ap (λ z. is_over (carry_out j s v z)) is-it);
     }
 
 -- ---- the rules' run, one dequeue at a time
@@ -103,39 +111,33 @@ is_over_lem (too_many x) e = refl
 
 -- ---- who is next, by the queue's words
 
-abbrev is_nobody : Next → Bool
-is_nobody Nobody = true
-is_nobody (Number v s) = false
-
 module _ (j : Job) (x : State) (reach : Reached j x) (t queue : List ℕ) (is : queue ≡ queue_words j x ++ t) where
   named_next : decoded (get_or queue 1 0) ≡ next_number (next_of j x)
   named_next =
       greatest_next j x queue (good_reached j x reach).agrees.sizes.queued
       (ap (take 1024) is ∙ take_at (queue_words j x) t 1024 (tournament_length j x))
 
-  nobody_next : decoded (get_or queue 1 0) ≡ Nobody → next_of j x ≡ none
+  nobody_next : decoded (get_or queue 1 0) ≡ None → next_of j x ≡ none
   nobody_next e = go (next_of j x) (sym named_next ∙ e)
     where
-      go : (o : Option Queued) → next_number o ≡ Nobody → o ≡ none
+      go : (o : Option Queued) → next_number o ≡ None → o ≡ none
       go none q = refl
-      go (some k) q = absurd (subst (λ (b : Bool). T (not b)) (ap is_nobody q) tt)
+      go (some k) q = cc
 
-  some_next : (v : ℕ) (q : Stage) → decoded (get_or queue 1 0) ≡ Number v q → (k : Queued) × (next_of j x ≡ some k) × (k.number ≡ v) × (k.stage ≡ q)
+  some_next : (v : ℕ) (q : Stage) → decoded (get_or queue 1 0) ≡ Some (v, q) → (k : Queued) × (next_of j x ≡ some k) × (k.number ≡ v) × (k.stage ≡ q)
   some_next v q e = go (next_of j x) refl (sym named_next ∙ e)
     where
-      number_of : Next → ℕ
-      number_of Nobody = 0
-      number_of (Number v s) = v
-
-      stage_at : Next → Stage
-      stage_at Nobody = q
-      stage_at (Number v s) = s
-
-      go : (o : Option Queued) → next_of j x ≡ o → next_number o ≡ Number v q → (k : Queued) × (next_of j x ≡ some k) × (k.number ≡ v) × (k.stage ≡ q)
-      go none p r = absurd (subst (λ (b : Bool). T b) (ap is_nobody r) tt)
-      go (some k) p r = (k, p, ap number_of r, ap stage_at r)
+      go : (o : Option Queued) → next_of j x ≡ o → next_number o ≡ Some (v, q) → (k : Queued) × (next_of j x ≡ some k) × (k.number ≡ v) × (k.stage ≡ q)
+      go none p r = cc
+      go (some k) p r =
+          let e : ◌≡◌ {A = ℕ × Stage} (k.number, k.stage) (v, q) = cc in
+          (k, p, ap (λ (y : ℕ × Stage). y.0) e, ap (λ (y : ℕ × Stage). y.1) e)
 
 -- ---- the loop
+
+-- an end after as many dequeues, however they are counted
+pub ended : (e : Ending) (m n : ℕ) → m ≡ n → (let r : RunEnd = record { ending = e; dequeues = m } in r) ≡ record { ending = e; dequeues = n }
+ended e m n p = rw p
 
 -- after some dequeues the state is x, and `left` more may be made
 pub record Going (j : Job) (s : State) (t : StateBuffers) (budget left : ℕ) (B : JobBuffers) (S' : StateBuffers) (W' : List ℕ) : Type 0 where
@@ -176,7 +178,7 @@ module _ (budget : ℕ) (B : JobBuffers) (S : StateBuffers) (W : List ℕ) where
 
     module _ (left : ℕ) (so_far : RunTo budget left B S W S' W') where
       -- nobody waits
-      pub run_done : decoded (get_or S'.queue 1 0) ≡ Nobody → (r : RunEnd) → r ≡ record { ending = Done; dequeues = budget - left } → RunMade budget B S W S' W' r
+      pub run_done : decoded (get_or S'.queue 1 0) ≡ None → (r : RunEnd) → r ≡ record { ending = Done; dequeues = budget - left } → RunMade budget B S W S' W' r
       run_done nobody =
           ends_with Done (budget - left)
           (λ j s t l.
@@ -184,7 +186,7 @@ module _ (budget : ℕ) (B : JobBuffers) (S : StateBuffers) (W : List ℕ) where
           let z = nobody_next j o.x o.lent_so.reached t.queue S'.queue o.lent_so.stands.moves.queue_is nobody in
           (o.x, sym (from_nobody j o.x left (budget - left) z) ∙ o.whole, o.lent_so.stands, o.lent_so.records_are))
 
-      module _ (v : ℕ) (q : Stage) (next : decoded (get_or S'.queue 1 0) ≡ Number v q) where
+      module _ (v : ℕ) (q : Stage) (next : decoded (get_or S'.queue 1 0) ≡ Some (v, q)) where
         -- the budget is spent
         pub run_spent : left ≡ 0 → (r : RunEnd) → r ≡ record { ending = Spent; dequeues = budget } → RunMade budget B S W S' W' r
         run_spent none_left =
@@ -201,7 +203,7 @@ module _ (budget : ℕ) (B : JobBuffers) (S : StateBuffers) (W : List ℕ) where
 
 -- one more dequeue is made
 module _ (budget : ℕ) (B : JobBuffers) (S : StateBuffers) (W : List ℕ) (S' : StateBuffers) (W' : List ℕ) (left : ℕ) (so_far : RunTo budget left B S W S' W')
-    (v : ℕ) (q : Stage) (next : decoded (get_or S'.queue 1 0) ≡ Number v q)
+    (v : ℕ) (q : Stage) (next : decoded (get_or S'.queue 1 0) ≡ Some (v, q))
     (more : left ≡ 0 → ⊥) (S'' : StateBuffers) (W'' : List ℕ) (over : Bool) (step : DequeueMade v q B S' W' S'' W'' over) where
   -- what it leaves
   record Left (j : Job) (s : State) (t : StateBuffers) : Type 0 where

@@ -14,8 +14,8 @@ use Rattle.allocator.specs.Run.{run}
 use Rattle.allocator.specs.Reached.{Reached}
 use Rattle.record_words.specs.Words.{WordsOf}
 use Rattle.moves.specs.Standing.{JobStands, Stands}
-use Rattle.decisions.specs.declared.Fate.{Fate}
-use Rattle.decisions.specs.declared.Fate.TheVariants.{Leaves, Takes, Evicts, Splits, Fails}
+use Rattle.decisions.specs.declared.Decided.{Decided}
+use Rattle.decisions.specs.declared.Decided.TheVariants.{Leaves, Takes, Evicts, Splits, Fails}
 use Rattle.run_loop.specs.declared.RunEnd.{RunEnd}
 
 -- the state's four slices
@@ -28,11 +28,11 @@ ending_number Done = 1
 ending_number Spent = 2
 ending_number TooMany = 3
 
--- the fate that ends a run
-abbrev pub is_fails : Fate → Bool
+-- the decision that ends a run
+abbrev pub is_fails : Decided → Bool
 is_fails Leaves = false
-is_fails Takes = false
-is_fails Evicts = false
+is_fails (Takes c) = false
+is_fails (Evicts c f gone) = false
 is_fails Splits = false
 is_fails Fails = true
 

@@ -3,12 +3,12 @@
 
 ghost use Rattle.std.specs.Prelude.{◌≡◌};
 ghost use Rattle.job.specs.Layout.{slices, lists_in};
-ghost use Rattle.run_loop.specs.Running.{lent_state, ending_number, is_fails, DequeueMade, RunMade};
+ghost use Rattle.run_loop.specs.Running.{lent_state, ending_number, DequeueMade, RunMade};
 
 use allocator::{Ending, Stage};
 use context::carry::carry_out;
-use decisions::{Fate, decide};
-use queue::{Next, greatest};
+use decisions::{Decided, decide};
+use queue::greatest;
 
 // How a run ended, and after how many dequeues.
 #[derive(Clone, Copy)]
@@ -17,13 +17,7 @@ pub struct RunEnd {
     pub dequeues: u64,
 }
 
-fn ended(ending: Ending, dequeues: u64) -> RunEnd
-    ensures { result ≡ record { ending = ending; dequeues = dequeues } }
-{
-    RunEnd { ending, dequeues }
-}
-
-// The number of a run's word.
+// The number of a run's word, in which the C interface answers. A `From` would have to stand in the crate of `Ending`, which has no numbers.
 pub fn ending_number(ending: Ending) -> u64
     ensures { result ≡ ending_number ending }
 {
@@ -31,19 +25,6 @@ pub fn ending_number(ending: Ending) -> u64
         Ending::Done => 1,
         Ending::Spent => 2,
         Ending::TooMany => 3,
-    }
-}
-
-// Whether a decision ends the run.
-fn is_over(fate: Fate) -> bool
-    ensures { result ≡ is_fails fate }
-{
-    match fate {
-        Fate::Leaves => false,
-        Fate::Takes => false,
-        Fate::Evicts => false,
-        Fate::Splits => false,
-        Fate::Fails => true,
     }
 }
 
@@ -72,11 +53,11 @@ impl Queued {
         ensures { DequeueMade self.number self.stage (lists_in (slices j64.now j32.now j16.now j8.now jf.now)) (lent_state ends.old rests.old queue.old last.old) words.old (lent_state ends.new rests.new queue.new last.new) words.new result }
     {
         let v = self.number;
-        let stage = self.stage;
-        let d = decide(v, stage, words, j64, j32, j16, j8, jf, ends, rests, last);
-        let fate = d.fate;
-        carry_out(d, v, j64, j32, j16, ends, rests, queue, last, words);
-        is_over(fate)
+        let decided = decide(
+            v, self.stage, words, j64, j32, j16, j8, jf, ends, rests, last,
+        );
+        carry_out(&decided, v, j64, j32, j16, ends, rests, queue, last, words);
+        matches!(decided, Decided::Fails)
     }
 }
 
@@ -96,18 +77,27 @@ pub fn run_on(
 ) -> RunEnd
     ensures { RunMade budget (lists_in (slices j64.now j32.now j16.now j8.now jf.now)) (lent_state ends.old rests.old queue.old last.old) words.old (lent_state ends.new rests.new queue.new last.new) words.new result }
 {
-    let mut left = budget;
-    loop {
-        let Next::Number(number, stage) = greatest(queue) else {
-            return ended(Ending::Done, budget - left);
+    for dequeues in 0..budget {
+        let Some((number, stage)) = greatest(queue) else {
+            return RunEnd {
+                ending: Ending::Done,
+                dequeues,
+            };
         };
-        if left == 0 {
-            return ended(Ending::Spent, budget);
-        }
-        left -= 1;
         let first = Queued { number, stage };
         if first.dequeue(j64, j32, j16, j8, jf, ends, rests, queue, last, words) {
-            return ended(Ending::TooMany, budget - left);
+            return RunEnd {
+                ending: Ending::TooMany,
+                dequeues: dequeues + 1,
+            };
         }
+    }
+    let ending = match greatest(queue) {
+        Some(_) => Ending::Spent,
+        None => Ending::Done,
+    };
+    RunEnd {
+        ending,
+        dequeues: budget,
     }
 }

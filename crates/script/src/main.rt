@@ -4,5 +4,5 @@
 use scripts::run_script;
 
 fn main() {
-    run_script(0xFFFF_FFFF_FFFF_FFFF);
+    run_script(u64::MAX);
 }

@@ -1,48 +1,13 @@
 -- What is read of a script: how much of it, the buffer behind it, and the number that its bytes are. Assumes nothing.
-use Prim.Native.Nat.{ℕ, zero, suc, ◌+◌, ◌-◌, ◌*◌, ◌^◌, ◌≤◌, ◌<◌, min}
-use native.Mathlib.Omega.{arith}
+use Rattle.std.proofs.Common.{ℕ, zero, suc, ◌+◌, ◌-◌, ◌*◌, ◌^◌, ◌≤◌, ◌<◌, ◌≡◌, sym, ap, ◌∙◌, subst, List, [], ◌∷◌, Bool, true, false, eqb, get_or, drop, w32, Option, arith}
+use Rattle.std.specs.Int.{from_le_bytes}
+use Rattle.std.specs.Bool.{then_some}
 use native.Mathlib.Nat.{pow-le-pow_right}
-use mathlib.Core.Path.{◌≡◌, sym, ap, ◌∙◌, subst}
-use mathlib.Core.List.{List, [], ◌∷◌, ◌++◌}
-use mathlib.Core.Bool.{Bool, true, false}
-use lib.Dec.{T, eqb}
 use borrow.Author.Tests.{eqb-true, eqb-false}
-use lib.ListN.{length, take, drop, get_or}
-use lib.Seq.{length-take-le, drop-append-add, drop-drop, get_or-drop}
+use lib.Seq.{get_or-drop}
 use Rattle.script_bytes.specs.Reading.{SomeRead, Took, NumberRead}
 
--- a buffer whose first k bytes are others is as it was behind the first n
-behind_front : (front buf : List ℕ) (k n : ℕ) → length front ≡ k → k ≤ n → drop n (front ++ drop k buf) ≡ drop n buf
-behind_front front buf k n e h =
-    let p : n ≡ length front + (n - k) = omega arith in
-    let q : k + (n - k) ≡ n = omega arith in
-    ap (λ (i : ℕ). drop i (front ++ drop k buf)) p
-    ∙ drop-append-add front (drop k buf) (n - k)
-    ∙ drop-drop (n - k) k buf
-    ∙ ap (λ (i : ℕ). drop i buf) q
-
-module _ (n left left' a most r : ℕ) (buf front : List ℕ) where
-  -- what one read into the first bytes of a buffer leaves
-  pub some_read :
-      a ≡ min n left
-      → most ≡ min a (length buf)
-      → length front ≡ length (take most buf)
-      → r ≤ length front
-      → left' ≡ left - r
-      → SomeRead n left left' buf (front ++ drop most buf) r
-  some_read p q same h e =
-      let k : length front ≡ most = same ∙ length-take-le most buf (omega arith) in
-      record { asked = omega arith; room = omega arith; taken = omega arith; behind = behind_front front buf most n k (omega arith) }
-
--- all n bytes came, or fewer did
-module _ {n left left' : ℕ} where
-  pub all_took : left' + n ≡ left → Took n left left' true
-  all_took e = record { never_more = omega arith; all_there = λ _. e; cut_short = λ z. absurd (subst (λ (b : Bool). T b) z tt) }
-
-  pub less_took : left' ≤ left → left < left' + n → Took n left left' false
-  less_took h l = record { never_more = h; all_there = λ z. absurd (subst (λ (b : Bool). T b) (sym z) tt); cut_short = λ _. l }
-
--- the same by how many came
+-- whether all n bytes came, by how many did
 took_by : (n left left' r : ℕ) → r ≤ n → left' + r ≡ left → Took n left left' (eqb r n)
 took_by n left left' r h e =
     record {
@@ -78,17 +43,16 @@ fits_bytes (suc (suc (suc (suc k)))) a b c d ha hb hc hd za zb zc zd = omega (ar
 
 -- the number of four bytes, of which n were asked for and the others were 0
 pub number_read :
-    (n left left' r x : ℕ) (bytes : List ℕ)
+    (n left left' r x : ℕ) (bytes : List ℕ) (number : Option ℕ)
     → SomeRead n left left' (0 ∷ 0 ∷ 0 ∷ 0 ∷ []) bytes r
-    → (x ≡ get_or bytes 0 0 + get_or bytes 1 0 * 256 + get_or bytes 2 0 * 65536 + get_or bytes 3 0 * 16777216)
-    × (get_or bytes 0 0 < 256)
-    × (get_or bytes 1 0 < 256)
-    × (get_or bytes 2 0 < 256)
-    × (get_or bytes 3 0 < 256)
-    → NumberRead n left left' x (eqb r n)
-number_read n left left' r x bytes s k =
+    → x ≡ from_le_bytes w32 bytes
+    → number ≡ then_some (eqb r n) x
+    → NumberRead n left left' number
+number_read n left left' r x bytes number s f e =
     let same = byte_behind (0 ∷ 0 ∷ 0 ∷ 0 ∷ []) bytes n in
-    record {
-      took = took_by n left left' r s.asked s.taken;
-      fits = rw k.0 (fits_bytes n _ _ _ _ k.1 k.2 k.3 k.4 (same 0 s.behind) (same 1 s.behind) (same 2 s.behind) (same 3 s.behind));
-    }
+    let fit : x < 256 ^ n = rw f (fits_bytes n _ _ _ _ (s.bytes 0) (s.bytes 1) (s.bytes 2) (s.bytes 3) (same 0 s.behind) (same 1 s.behind) (same 2 s.behind) (same 3 s.behind)) in
+    rw e (by fit (eqb r n) (took_by n left left' r s.asked s.taken))
+  where
+    by : x < 256 ^ n → (b : Bool) → Took n left left' b → NumberRead n left left' (then_some b x)
+    by fit true t = record { took = t; fits = fit }
+    by fit false t = record { took = t; fits = tt }

@@ -7,6 +7,7 @@ use Rattle.allocator.specs.Script.{answer_line}
 use Rattle.calls.specs.Calling.{refusal_number, value_number}
 use Rattle.call_lists.specs.Listed.{word_number}
 use Rattle.answers.specs.Answers.{answer_text}
+use Rattle.result_lines.specs.ResultTexts.{ending_in}
 
 -- a refusal has a number
 abbrev pub Numbered : Answer → Type 0
@@ -16,7 +17,7 @@ Numbered (evicted r) = Unit {0}
 Numbered (ended e n) = Unit {0}
 
 pub answer_is : (a : Answer) → Numbered a → answer_text (refusal_number a) (word_number a) (value_number a) ≡ answer_line a
-unfolding answer_text
+unfolding answer_text ending_in
 answer_is (refused n) f = rw (ne_eqb n 0 f) refl
 answer_is (placed r) f = refl
 answer_is (evicted r) f = refl

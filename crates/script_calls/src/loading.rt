@@ -2,13 +2,13 @@
 ghost use Rattle.std.specs.Prelude.{◌≤◌};
 
 use crate::make_calls;
-use loader::load::JobLoaded;
+use reg_matrix::Refusal;
 use script_bytes::output::print;
 use stage_loader::load;
 
 // Prints that a job is refused, with the refusal's number.
-fn print_refused(line: &mut [u8], n: u8) {
-    let length = result_lines::refused_line(line, n as u64);
+fn print_refused(line: &mut [u8], r: Refusal) {
+    let length = result_lines::refused_line(line, r.number());
     print(line, length);
 }
 
@@ -31,13 +31,14 @@ pub fn run_job(bytes: &[u8], left: &mut u64, line: &mut [u8]) -> bool
         &mut last,
     );
     match loaded {
-        JobLoaded::Refused(n) => {
-            print_refused(line, n);
+        Err(r) => {
+            print_refused(line, r);
             true
         }
-        JobLoaded::Is(header) => make_calls(
+        Ok(header) => make_calls(
             header, left, &j64, &j32, &j16, &j8, &jf, &mut ends, &mut rests, &mut queue, &mut last,
             line,
-        ),
+        )
+        .is_ok(),
     }
 }

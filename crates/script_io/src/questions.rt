@@ -1,62 +1,39 @@
 // Questions, which change nothing: checks of segments on a register, and whether a unit is spare. A check's segments are structs in an array that
 // goes by value.
-ghost use Rattle.std.specs.Prelude.{◌≡◌, [], ◌∷◌, ◌*◌, ◌≤◌, length};
+ghost use Rattle.std.specs.Prelude.{◌≡◌, [], ◌∷◌, ◌*◌, ◌≤◌, length, is_some};
 ghost use Rattle.reg_matrix.specs.Questions.{spare_refusal};
+ghost use Rattle.reg_matrix.specs.Refused.{numbered, or_refused};
 ghost use Rattle.entries.specs.Moves.{words};
-ghost use Rattle.unit_free.specs.Spare.{free_at, range, spare_answer};
+ghost use Rattle.unit_free.specs.Spare.{free_at, range};
 ghost use Rattle.narrow.specs.Cut.{cut};
 ghost use Rattle.script_bytes.specs.Reading.{Took};
-ghost use Rattle.script_io.specs.Segments.{is_whole};
 
-use matrix::{Cursor, Start, Step};
-use narrow::{cut8, cut16, cut32};
-use reg_matrix::ValueSegment;
+use matrix::Cursor;
+use narrow::Narrow;
+use reg_matrix::{Refusal, ValueSegment};
 use script_bytes::input::read_number;
 use script_bytes::output::print;
 use segment_lists::{check_list, next_in_list};
-use unit_free::{UnitFree, is_unit_free};
+use unit_free::is_unit_free;
 
-// One segment that was read, or that the script ended inside it.
-#[derive(Clone, Copy)]
-enum SegmentRead {
-    Is(ValueSegment),
-    Cut,
-}
-
-// The segments of a check: whether they were all there, and the list, which is empty behind them.
-#[derive(Clone, Copy)]
-struct SegmentsRead {
-    whole: bool,
-    list: [ValueSegment; 255],
-}
-
-// Reads one segment, of ten bytes.
-fn read_segment(left: &mut u64) -> SegmentRead
-    ensures { Took 10 left.old left.new (is_whole result) }
+// Reads one segment, of ten bytes, if it is all there.
+fn read_segment(left: &mut u64) -> Option<ValueSegment>
+    ensures { Took 10 left.old left.new (is_some result) }
 {
-    let mut from: u64 = 0;
-    let mut to: u64 = 0;
-    let mut value: u64 = 0;
-    if !read_number(left, 4, &mut from) {
-        return SegmentRead::Cut;
-    }
-    if !read_number(left, 4, &mut to) {
-        return SegmentRead::Cut;
-    }
-    if !read_number(left, 2, &mut value) {
-        return SegmentRead::Cut;
-    }
-    SegmentRead::Is(ValueSegment {
-        from: cut32(from),
-        to: cut32(to),
-        value: cut16(value),
+    let from = read_number(left, 4)?;
+    let to = read_number(left, 4)?;
+    let value = read_number(left, 2)?;
+    Some(ValueSegment {
+        from: u32::cut(from),
+        to: u32::cut(to),
+        value: u16::cut(value),
     })
 }
 
-// Reads n segments.
-fn read_segments(left: &mut u64, n: usize) -> SegmentsRead
+// Reads the n segments of a check, if they are all there; the list is empty behind them.
+fn read_segments(left: &mut u64, n: usize) -> Option<[ValueSegment; 255]>
     requires { n ≤ 255 }
-    ensures { Took (10 * n) left.old left.new result.whole }
+    ensures { Took (10 * n) left.old left.new (is_some result) }
 {
     let none = ValueSegment {
         from: 0,
@@ -64,21 +41,10 @@ fn read_segments(left: &mut u64, n: usize) -> SegmentsRead
         value: 0,
     };
     let mut list = [none; 255];
-    let mut i = 0;
-    while i < n {
-        let SegmentRead::Is(segment) = read_segment(left) else {
-            return SegmentsRead {
-                whole: false,
-                list: list,
-            };
-        };
-        list[i] = segment;
-        i += 1;
+    for segment in &mut list[..n] {
+        *segment = read_segment(left)?;
     }
-    SegmentsRead {
-        whole: true,
-        list: list,
-    }
+    Some(list)
 }
 
 // Prints the reports on the first n segments from this position on.
@@ -92,12 +58,7 @@ fn print_reports(
     line: &mut [u8],
 ) {
     let mut here = start;
-    let mut turns: u64 = 0xFFFF_FFFF_FFFF_FFFF;
-    while 0 < turns {
-        turns -= 1;
-        let Step::Report(report, after) = next_in_list(list, n, here, ends, rests, uses) else {
-            return;
-        };
+    while let Some((report, after)) = next_in_list(list, n, here, ends, rests, uses) {
         let length = answers::report_line(line, report);
         print(line, length);
         here = after;
@@ -128,11 +89,11 @@ fn check(
         rests,
         uses,
     ) {
-        Start::Refused(refusal) => {
-            let length = result_lines::refused_line(line, refusal as u64);
+        Err(refusal) => {
+            let length = result_lines::refused_line(line, refusal.number());
             print(line, length);
         }
-        Start::Checking(c) => {
+        Ok(c) => {
             let length = answers::check_line(line);
             print(line, length);
             print_reports(list, n, c, ends, rests, uses, line);
@@ -156,12 +117,10 @@ pub fn ask_check(
 ) -> bool
     ensures { Took (10 * cut 255 segments) left.old left.new result }
 {
-    let n = cut8(segments) as usize;
-    let read = read_segments(left, n);
-    if !read.whole {
+    let n = u8::cut(segments) as usize;
+    let Some(list) = read_segments(left, n) else {
         return false;
-    }
-    let list = read.list;
+    };
     check(list, n, reg, count, full, maps, ends, rests, uses, line);
     true
 }
@@ -175,10 +134,10 @@ pub fn ask_unit_free(
     ends: &[u64],
     rests: &[u64],
     line: &mut [u8],
-) -> UnitFree
-    ensures { result ≡ spare_answer (spare_refusal (length ends.now ∷ length rests.now ∷ []) (cut 255 unit) (range (cut 0xFFFF_FFFF from) (cut 0xFFFF_FFFF to))) (free_at (cut 255 unit) (cut 0xFFFF_FFFF from) (cut 0xFFFF_FFFF to) (words ends.now rests.now)) }
+) -> Result<bool, Refusal>
+    ensures { numbered result ≡ or_refused (spare_refusal (length ends.now ∷ length rests.now ∷ []) (cut 255 unit) (range (cut 0xFFFF_FFFF from) (cut 0xFFFF_FFFF to))) (free_at (cut 255 unit) (cut 0xFFFF_FFFF from) (cut 0xFFFF_FFFF to) (words ends.now rests.now)) }
 {
-    let answer = is_unit_free(ends, rests, cut8(unit), cut32(from), cut32(to));
+    let answer = is_unit_free(ends, rests, u8::cut(unit), u32::cut(from), u32::cut(to));
     let length = answers::unit_free_line(line, answer);
     print(line, length);
     answer

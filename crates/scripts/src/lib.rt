@@ -4,8 +4,8 @@
 
 ghost use Rattle.std.specs.Prelude.{◌≤◌};
 
-use lent::part8;
-use script_bytes::input::{least, less, read_number, read_some, skip};
+use lent::part;
+use script_bytes::input::{read_number, read_some, skip};
 use script_bytes::output::print;
 use script_calls::loading::run_job;
 
@@ -14,11 +14,11 @@ use script_calls::loading::run_job;
 fn read_job(left: &mut u64, length: u64, bytes: &mut [u8]) -> bool
     ensures { left.new ≤ left.old }
 {
-    let kept = least(length, 32769);
+    let kept = length.min(32769);
     if read_some(left, kept, bytes) < kept {
         return false;
     }
-    skip(left, less(length, kept))
+    skip(left, length - kept)
 }
 
 // Reads one script, of at most `left` bytes, and prints its transcript up to where it is bad. Answers whether it was good to its end.
@@ -26,15 +26,14 @@ fn print_script(left: &mut u64, line: &mut [u8]) -> bool
     ensures { left.new ≤ left.old }
 {
     let mut bytes = [0u8; 32769];
-    let mut size: u64 = 0;
-    if !read_number(left, 4, &mut size) {
+    let Some(size) = read_number(left, 4) else {
         return false;
-    }
+    };
     if !read_job(left, size, &mut bytes) {
         return false;
     }
-    let kept = least(size, 32769) as usize;
-    run_job(part8(&bytes, 0, kept), left, line)
+    let kept = size.min(32769) as usize;
+    run_job(part(&bytes, 0, kept), left, line)
 }
 
 // Reads a script of `length` bytes, or to the input's end, and prints its transcript, with `bad script` at its end where the script is bad. What a bad

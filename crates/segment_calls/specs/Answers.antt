@@ -1,31 +1,32 @@
 -- What the calls over segment structs answer: that of the call on the three lists of fields, but that a list of segments that has no room is
 -- refused first. Assumes nothing.
-use Rattle.std.specs.Prelude.{ℕ, ◌≡◌, List, [], ◌∷◌, Bool, cond, length, get_or, take}
+use Rattle.std.specs.Prelude.{ℕ, ◌≡◌, List, [], ◌∷◌, Bool, cond, length, get_or, take, Result}
 use Rattle.std.proofs.Math.Option.{Option, some}
 use Rattle.reg_matrix.specs.Questions.{check_refusal}
 use Rattle.table_words.specs.Segments.{segments_in}
-use Rattle.matrix.specs.Walk.{start_of, entered}
+use Rattle.reg_matrix.specs.Refused.{refusal_in, or_refused}
+use Rattle.matrix.specs.Walk.{entered}
 use Rattle.entries.specs.Moves.{Words}
-use Rattle.entries.specs.Placing.{moved, move_refusal, sizes, unless_refused, assigning, evicting}
-use Rattle.matrix.specs.declared.Start.{Start}
-use Rattle.entries.specs.declared.Moved.{Moved}
+use Rattle.entries.specs.Placing.{move_refusal, sizes, unless_refused, assigning, evicting}
+use Rattle.reg_matrix.specs.declared.Refusal.{Refusal}
+use Rattle.matrix.specs.declared.Cursor.{Cursor}
 
 -- 15 where the segments have no room, and else what the call tests
 abbrev pub unless_long : Bool → Option ℕ → Option ℕ
 unless_long long r = cond long (some 15) r
 
-unfoldable pub check_answer : Bool → List ℕ → ℕ → ℕ → Bool → List ℕ → List ℕ → List ℕ → List ℕ → List ℕ → List ℕ → Start
+unfoldable pub check_answer : Bool → List ℕ → ℕ → ℕ → Bool → List ℕ → List ℕ → List ℕ → List ℕ → List ℕ → List ℕ → Result Cursor ℕ
 check_answer long regs count reg full ends rests uses froms tos values =
-    start_of
+    or_refused
     (unless_long long
     (check_refusal (length regs ∷ length uses ∷ length ends ∷ length rests ∷ length froms ∷ length tos ∷ length values
     ∷ []) (take count regs) reg (segments_in froms tos values)))
     (entered ends froms (get_or regs reg 0) full)
 
-pub record AssignAnswer (long : Bool) (v m : ℕ) (uses froms tos : List ℕ) (w w' : Words) (r : Moved) : Type 0 where
-  pub answer : r ≡ moved (unless_long long (move_refusal (sizes w uses tos) (length froms) v))
+pub record AssignAnswer (long : Bool) (v m : ℕ) (uses froms tos : List ℕ) (w w' : Words) (r : Result (Unit {0}) Refusal) : Type 0 where
+  pub answer : refusal_in r ≡ unless_long long (move_refusal (sizes w uses tos) (length froms) v)
   pub after : w' ≡ unless_refused (unless_long long (move_refusal (sizes w uses tos) (length froms) v)) (assigning uses v m froms tos w) w
 
-pub record EvictAnswer (long : Bool) (v m : ℕ) (uses tos : List ℕ) (w w' : Words) (r : Moved) : Type 0 where
-  pub answer : r ≡ moved (unless_long long (move_refusal (sizes w uses tos) (length tos) v))
+pub record EvictAnswer (long : Bool) (v m : ℕ) (uses tos : List ℕ) (w w' : Words) (r : Result (Unit {0}) Refusal) : Type 0 where
+  pub answer : refusal_in r ≡ unless_long long (move_refusal (sizes w uses tos) (length tos) v)
   pub after : w' ≡ unless_refused (unless_long long (move_refusal (sizes w uses tos) (length tos) v)) (evicting uses v m tos w) w

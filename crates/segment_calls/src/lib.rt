@@ -4,16 +4,18 @@
 ghost use Rattle.std.specs.Prelude.{◌≡◌};
 ghost use Rattle.entries.specs.Moves.{words};
 ghost use Rattle.matrix.specs.Walk.{Answered, lent, entered};
+ghost use Rattle.reg_matrix.specs.Refused.{numbered};
 ghost use Rattle.segment_calls.specs.Answers.{check_answer, AssignAnswer, EvictAnswer};
 ghost use Rattle.segment_fields.specs.Apart.{froms_in, tos_in, values_in};
 
-use entries::Moved;
-use lent::{part16, part32};
-use matrix::{Cursor, Start, Step, check};
+use lent::part;
+use matrix::{Cursor, check};
 use placing::assign;
+use reg_matrix::{Interference, Refusal};
 use segment_fields::Fields;
 
 // The check of segments that are taken apart.
+#[tactic(auto, unfolding(crate::specs::Answers::check_answer))]
 pub fn check_fields(
     f: Fields,
     regs: &[u64],
@@ -23,16 +25,12 @@ pub fn check_fields(
     ends: &[u64],
     rests: &[u64],
     uses: &[u64],
-) -> Start
-    ensures { result ≡ check_answer f.long regs.now count reg full ends.now rests.now uses.now (froms_in f) (tos_in f) (values_in f) }
+) -> Result<Cursor, Refusal>
+    ensures { numbered result ≡ check_answer f.long regs.now count reg full ends.now rests.now uses.now (froms_in f) (tos_in f) (values_in f) }
 {
     if f.long {
-        return Start::Refused(15);
+        return Err(Refusal::ShortBuffer);
     }
-    let n = f.count;
-    let froms = f.froms;
-    let tos = f.tos;
-    let values = f.values;
     check::check_interference(
         regs,
         count,
@@ -41,9 +39,9 @@ pub fn check_fields(
         ends,
         rests,
         uses,
-        part32(&froms, 0, n),
-        part32(&tos, 0, n),
-        part16(&values, 0, n),
+        part(&f.froms, 0, f.count),
+        part(&f.tos, 0, f.count),
+        part(&f.values, 0, f.count),
     )
 }
 
@@ -51,26 +49,26 @@ pub fn check_fields(
 pub fn enter_fields(f: Fields, ends: &[u64], units: u64, full: bool) -> Cursor
     ensures { result ≡ entered ends.now (froms_in f) units full }
 {
-    let n = f.count;
-    let froms = f.froms;
-    check::enter(ends, part32(&froms, 0, n), units, full)
+    check::enter(ends, part(&f.froms, 0, f.count), units, full)
 }
 
 // The next report on segments that are taken apart.
-pub fn next_in_fields(f: Fields, c: Cursor, ends: &[u64], rests: &[u64], uses: &[u64]) -> Step
+pub fn next_in_fields(
+    f: Fields,
+    c: Cursor,
+    ends: &[u64],
+    rests: &[u64],
+    uses: &[u64],
+) -> Option<(Interference, Cursor)>
     ensures { Answered (lent ends.now rests.now uses.now (froms_in f) (tos_in f) (values_in f)) c result }
 {
-    let n = f.count;
-    let froms = f.froms;
-    let tos = f.tos;
-    let values = f.values;
     c.next(
         ends,
         rests,
         uses,
-        part32(&froms, 0, n),
-        part32(&tos, 0, n),
-        part16(&values, 0, n),
+        part(&f.froms, 0, f.count),
+        part(&f.tos, 0, f.count),
+        part(&f.values, 0, f.count),
     )
 }
 
@@ -82,23 +80,20 @@ pub fn assign_fields(
     uses: &[u64],
     v: u16,
     map: u64,
-) -> Moved
+) -> Result<(), Refusal>
     ensures { AssignAnswer f.long v map uses.now (froms_in f) (tos_in f) (words ends.old rests.old) (words ends.new rests.new) result }
 {
     if f.long {
-        return Moved::Refused(15);
+        return Err(Refusal::ShortBuffer);
     }
-    let n = f.count;
-    let froms = f.froms;
-    let tos = f.tos;
     assign::assign(
         ends,
         rests,
         uses,
         v,
         map,
-        part32(&froms, 0, n),
-        part32(&tos, 0, n),
+        part(&f.froms, 0, f.count),
+        part(&f.tos, 0, f.count),
     )
 }
 
@@ -110,13 +105,11 @@ pub fn evict_fields(
     uses: &[u64],
     v: u16,
     map: u64,
-) -> Moved
+) -> Result<(), Refusal>
     ensures { EvictAnswer f.long v map uses.now (tos_in f) (words ends.old rests.old) (words ends.new rests.new) result }
 {
     if f.long {
-        return Moved::Refused(15);
+        return Err(Refusal::ShortBuffer);
     }
-    let n = f.count;
-    let tos = f.tos;
-    assign::evict(ends, rests, uses, v, map, part32(&tos, 0, n))
+    assign::evict(ends, rests, uses, v, map, part(&f.tos, 0, f.count))
 }

@@ -3,10 +3,9 @@
 use Prim.Native.Nat.{ℕ, suc, ◌+◌, ◌-◌, ◌≤◌, ◌<◌, min}
 use native.Mathlib.Omega.{arith}
 use native.Mathlib.Numerals.{add-one}
-use native.Mathlib.Nat.{min_comm, min-le_right}
+use native.Mathlib.Nat.{min_comm}
 use mathlib.Core.Path.{◌≡◌, refl, sym, ◌∙◌, ap}
 use mathlib.Core.List.{List, [], ◌∷◌, ◌++◌, map, map-append}
-use mathlib.Core.Bool.{Bool}
 use lib.Dec.{ltb}
 use lib.ListN.{length, take, set, get_or, replicate, length-append, length-map, length-take}
 use lib.Seq.{take-suc, take-append_seam, set_at, append_snoc, length-take-le}
@@ -15,7 +14,6 @@ use Rattle.reg_matrix.specs.declared.ValueSegment.{ValueSegment}
 use Rattle.lent.specs.Parts.{part}
 use Rattle.lent.proofs.Laws.{inside}
 use Rattle.reg_matrix.proofs.Places.{take_least}
-use Rattle.segment_fields.specs.declared.Fields.{Fields}
 use Rattle.segment_fields.specs.Apart.{max_segments, fields_of, taken_apart, froms_in, tos_in, values_in, froms_of, tos_of, values_of}
 
 -- ---- padded lists
@@ -32,7 +30,7 @@ abbrev pub no_segment : ValueSegment
 no_segment = record { from = 0; to = 0; value = 0 }
 
 -- one segment more
-module _ (g : ValueSegment → ℕ) (l : List ValueSegment) (i : ℕ) (inside : i < length l) (room : length l ≡ max_segments) where
+module _ (g : ValueSegment → ℕ) (l : List ValueSegment) (i : ℕ) (inside : i < length l) (room : length l ≤ max_segments) where
   abbrev before : List ℕ
   before = map g (take i l)
 
@@ -54,24 +52,18 @@ module _ (g : ValueSegment → ℕ) (l : List ValueSegment) (i : ℕ) (inside : 
       ∙ ap (λ (k : ℕ). map g (take (i + 1) l) ++ replicate (max_segments - k) 0) (sym long)
 
 -- all of the first n
-module _ (l : List ValueSegment) (count n : ℕ) (room : length l ≡ max_segments) (least : n ≡ min count max_segments) where
-  pub all_taken : take n l ≡ take count l
-  all_taken = ap (λ (k : ℕ). take k l) (least ∙ ap (min count) (sym room)) ∙ take_least count l
+module _ (ss : List ValueSegment) (n : ℕ) (least : n ≡ min (length ss) max_segments) where
+  first_is : take n ss ≡ take max_segments ss
+  first_is = ap (λ (k : ℕ). take k ss) (least ∙ min_comm (length ss) max_segments) ∙ take_least max_segments ss
 
-  pub all_stored : (long : Bool) {fs ts vs : List ℕ} → fs ≡ padded max_segments 0 (froms_of (take n l)) → ts ≡ padded max_segments 0 (tos_of (take n l))
-      → vs ≡ padded max_segments 0 (values_of (take n l)) → record { count = n; long = long; froms = fs; tos = ts; values = vs } ≡ fields_of long (take count l)
-  unfolding fields_of
-  all_stored long ef et ev =
-      let counted : n ≡ length (take n l) = sym (length-take-le n l (omega (arith, min-le_right count max_segments))) in
-      (λ k. record { count = counted k; long = long; froms = ef k; tos = et k; values = ev k }) ∙ ap (fields_of long) all_taken
-
--- the segments that have room were copied into a list, and the list is taken apart
-pub gathered : (l ys : List ValueSegment) (m : ℕ) → length l ≡ max_segments → m ≡ min (length ys) max_segments → take m l ≡ take m ys → {f : Fields}
-    → f ≡ fields_of (ltb max_segments (length ys)) (take (length ys) l) → f ≡ taken_apart ys
-unfolding taken_apart
-gathered l ys m room least e p =
-    p ∙ ap (fields_of (ltb max_segments (length ys)))
-    (sym (all_taken l (length ys) m room least) ∙ e ∙ ap (λ (k : ℕ). take k ys) (least ∙ min_comm (length ys) max_segments) ∙ take_least max_segments ys)
+  pub all_stored : {fs ts vs : List ℕ} → fs ≡ padded max_segments 0 (froms_of (take n ss)) → ts ≡ padded max_segments 0 (tos_of (take n ss))
+      → vs ≡ padded max_segments 0 (values_of (take n ss))
+      → record { count = n; long = ltb max_segments (length ss); froms = fs; tos = ts; values = vs } ≡ taken_apart ss
+  unfolding taken_apart fields_of
+  all_stored ef et ev =
+      let counted : n ≡ length (take n ss) = sym (length-take-le n ss (omega arith)) in
+      (λ k. record { count = counted k; long = ltb max_segments (length ss); froms = ef k; tos = et k; values = ev k })
+      ∙ ap (fields_of (ltb max_segments (length ss))) first_is
 
 -- ---- all that is had of the segments
 

@@ -1,4 +1,4 @@
-// Lent segment structs copied and taken apart into three lists of numbers.
+// Lent segment structs taken apart into three lists of numbers.
 #![tactic(auto)]
 
 pub mod taking;

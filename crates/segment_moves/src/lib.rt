@@ -13,13 +13,6 @@ use entries::table::{insert, insert_use, remove, remove_run};
 use lent::at;
 use table_words::search::{find, search};
 
-// a - b, or 0 where b is greater.
-fn minus(a: usize, b: usize) -> usize
-    ensures { result ≡ a - b }
-{
-    if b < a { a - b } else { 0 }
-}
-
 // The place of the first fixed use that does not start before p on this unit.
 fn use_place(uses: &[u64], unit: u8, p: u32) -> usize
     ensures value { result ≡ place_of max_fixed uses.now (use_key unit p) }
@@ -33,16 +26,18 @@ fn use_place(uses: &[u64], unit: u8, p: u32) -> usize
 }
 
 // The same place among the unit's fixed uses.
+#[tactic(auto, unfolding(entries::specs::Placing::uses_before))]
 fn uses_before(uses: &[u64], unit: u8, p: u32) -> usize
     ensures value { result ≡ uses_before uses.now unit p }
     ensures upper_bound { result ≤ 512 }
 {
     let past = use_place(uses, unit, p);
     let first = search(uses, 512, unit as u64 * 0x1_0000_0000_0000);
-    minus(past, first)
+    past.saturating_sub(first)
 }
 
 // An entry's index, as it stands in the entry's number: 0 if nothing stands from lo to hi.
+#[tactic(auto, unfolding(entries::specs::Placing::index_part))]
 fn index_part(uses: &[u64], unit: u8, p: u32, lo: usize, hi: usize) -> u64
     ensures value { result ≡ index_part uses.now unit p lo hi }
     ensures upper_bound { result ≤ 513 }
@@ -78,6 +73,7 @@ fn held_word(uses: &[u64], v: u16, unit: u8, from: u32, lo: usize, hi: usize) ->
 
 // One segment on one unit: the entries that end inside it, fixed uses all, give way to an entry of v. A virtual register has a number under 512;
 // of any other its remainder is taken.
+#[tactic(auto, unfolding(entries::specs::Placing::assigning_segment))]
 pub fn assign_segment(
     ends: &mut [u64],
     rests: &mut [u64],
@@ -92,36 +88,31 @@ pub fn assign_segment(
     let lo = past(ends, unit, from);
     let hi = past(ends, unit, to);
     let rest = held_word(uses, v, unit, from, lo, hi);
-    let run = minus(hi, lo);
-    remove_run(ends, rests, lo, run);
+    remove_run(ends, rests, lo, hi.saturating_sub(lo));
     insert(ends, rests, end_word(unit, to), rest);
 }
 
 // Whether the entry at `place` ends at `end` and is v's.
+#[tactic(auto, unfolding(entries::specs::Placing::is_own))]
 fn is_own(ends: &[u64], rests: &[u64], v: u16, end: u64, place: usize) -> bool
     ensures { result ≡ is_own v end place (words ends.now rests.now) }
 {
-    if place < 2560 {
-        if at(ends, place) == end {
-            return at(rests, place) % 0x1_0000_0000 / 0x1_0000 == v as u64 + 2;
-        }
-    }
-    false
+    place < 2560
+        && at(ends, place) == end
+        && at(rests, place) % 0x1_0000_0000 / 0x1_0000 == v as u64 + 2
 }
 
 // Puts the fixed uses number `first` to `last` back.
 fn insert_uses(ends: &mut [u64], rests: &mut [u64], uses: &[u64], first: usize, last: usize)
     ensures { words ends.new rests.new ≡ inserting_uses (last - first) first uses.now (words ends.old rests.old) }
 {
-    let mut j = first;
-    while j < last {
-        let x = at(uses, j);
-        insert_use(ends, rests, x);
-        j += 1;
+    for j in first..last {
+        insert_use(ends, rests, at(uses, j));
     }
 }
 
 // The number of the first fixed use under an entry of the unit that has this second number; `last` if there is none.
+#[tactic(auto, unfolding(entries::specs::Placing::first_under))]
 fn first_under(uses: &[u64], unit: u8, rest: u64, last: usize) -> usize
     ensures { result ≡ first_under uses.now unit (rest % 2 ^ 16) last }
 {
@@ -133,6 +124,7 @@ fn first_under(uses: &[u64], unit: u8, rest: u64, last: usize) -> usize
 }
 
 // One segment on one unit: the entry of v goes, and the fixed uses that it replaced come back.
+#[tactic(auto, unfolding(entries::specs::Placing::evicting_segment))]
 pub fn evict_segment(ends: &mut [u64], rests: &mut [u64], uses: &[u64], v: u16, unit: u8, to: u32)
     ensures { words ends.new rests.new ≡ evicting_segment uses.now v unit (words ends.old rests.old) to }
 {

@@ -9,6 +9,8 @@ use lib.ListN.{length, take, drop, take-append-drop, length-map}
 use lib.Seq.{sets, take_at, drop_at}
 use borrow.Author.Tests.{lt-ltb, le-ltb}
 use Rattle.reg_matrix.specs.Lines.{refused_line}
+use Rattle.reg_matrix.specs.declared.Refusal.{Refusal}
+use Rattle.reg_matrix.specs.Refused.{number_of, numbered}
 use Rattle.reg_matrix.specs.Refusals.{short_buffer}
 use Rattle.job.specs.Model.{Job}
 use Rattle.job.specs.Load.{Bytes, whole_job, Loaded, not_loaded, loaded, load_with}
@@ -23,8 +25,7 @@ use Rattle.allocator.specs.Reached.{Reached}
 use Rattle.allocator.specs.Sheet.{sheet_of, printed}
 use Rattle.allocator.proofs.Loading.{stage_premises}
 use Rattle.allocator.proofs.Good.{reached_fresh, reached_run}
-use Rattle.loader.specs.declared.load.JobLoaded.{JobLoaded}
-use Rattle.loader.specs.declared.load.JobLoaded.TheVariants.{Is, Refused as NotLoaded}
+use Rattle.std.specs.Prelude.{Result, Ok, Err}
 use Rattle.moves.specs.Standing.{JobStands, Stands}
 use Rattle.run_loop.specs.declared.RunEnd.{RunEnd}
 use Rattle.run_loop.specs.Running.{lent_state, LentTo, RunMade}
@@ -37,8 +38,6 @@ use Rattle.listing.proofs.SheetLaws.{Laid, reached_sheet}
 use Rattle.record_words.specs.Words.{record_word, records_in, AllPlain, WordsOf}
 use Rattle.record_words.proofs.WordLaws.{tail_kept, in_front, front_words}
 use Rattle.record_words.proofs.PlainRecords.{plain_records, records_length}
-use Rattle.sheets.specs.declared.Printing.{Printing}
-use Rattle.sheets.specs.declared.Printing.TheVariants.{Refused, At}
 use Rattle.sheets.specs.Printing.{sheet_limits, sheet_sizes, loaded_with, ran_of, state_in, records_on, start_of, lines_lent, shown, BegunParts, Begun, RunStored}
 
 -- ---- a run whose records stand in the words
@@ -75,7 +74,7 @@ run_stored h B S W S' W' c rs n firsts part r first stored back most ran size e 
 
 -- ---- 15, for the words too
 
-refused_loaded : (m : ℕ) (k : JobHeader) → NotLoaded m ≡ Is k → ⊥
+refused_loaded : {E : Type 0} (m : E) (k : JobHeader) → ◌≡◌ {A = Result JobHeader E} (Err m) (Ok k) → ⊥
 refused_loaded m k e = let z : ◌≡◌ {A = ℕ} 0 1 = cc in omega arith
 
 limits_enough : short_buffer stage_limits stage_limits ≡ false
@@ -93,7 +92,7 @@ module _ (bytes : List ℕ) (B : JobSlices) (S : StateBuffers) (W : List ℕ) wh
   all_printed e = rw (e, limits_enough)
 
   begun :
-      (B' : JobSlices) (S' : StateBuffers) (W' : List ℕ) (r : Printing) (o : Loaded)
+      (B' : JobSlices) (S' : StateBuffers) (W' : List ℕ) (r : Result Listing ℕ) (o : Loaded)
       → loaded_with B S W bytes ≡ o
       → BegunParts B S W B' S' W' r o
       → shown r (lines_lent B' S') W' ≡ sheet_of o
@@ -102,12 +101,12 @@ module _ (bytes : List ℕ) (B : JobSlices) (S : StateBuffers) (W : List ℕ) wh
       let shows : shown r (lines_lent B' S') W' ≡ sheet_of (loaded_with B S W bytes) = q ∙ ap sheet_of (sym e) in
       record { parts = subst (BegunParts B S W B' S' W' r) (sym e) p; shows = shows; prints = λ k. shows ∙ all_printed k }
 
-  pub short_begin : length W < 512 → Begun bytes B S W B S W (Refused 15)
+  pub short_begin : length W < 512 → Begun bytes B S W B S W (Err 15)
   unfolding loaded_with load_with whole_job shown
   short_begin h =
       let e : short_buffer sheet_limits (sheet_sizes B S W) ≡ true =
       all_short ∙ ap (λ (b : Bool). short_buffer stage_limits (sizes_of B S) || (b || false)) (lt-ltb (length W) 512 h) ∙ or-true (short_buffer stage_limits (sizes_of B S)) in
-      begun B S W (Refused 15) (not_loaded 15) (rw e) (refl, refl, refl, refl) refl
+      begun B S W (Err 15) (not_loaded 15) (rw e) (refl, refl, refl, refl) refl
 
   -- and with long enough words it is loading a stage
   same_load : 512 ≤ length W → loaded_with B S W bytes ≡ load (sizes_of B S) bytes
@@ -118,14 +117,14 @@ module _ (bytes : List ℕ) (B : JobSlices) (S : StateBuffers) (W : List ℕ) wh
       rw e
 
   pub refused_begin :
-      512 ≤ length W → (B' : JobSlices) (S' : StateBuffers) (r : JobLoaded) (n : ℕ) → StageLoadDone bytes B S B' S' r → r ≡ NotLoaded n → Begun bytes B S W B' S' W (Refused n)
+      512 ≤ length W → (B' : JobSlices) (S' : StateBuffers) (r : Result JobHeader Refusal) (n : Refusal) → StageLoadDone bytes B S B' S' r → r ≡ Err n → Begun bytes B S W B' S' W (Err (number_of n))
   unfolding shown
   refused_begin h B' S' r n d told = go (load (sizes_of B S) bytes) refl d.parts
     where
-      go : (o : Loaded) → load (sizes_of B S) bytes ≡ o → StageLoadParts B S B' S' r o → Begun bytes B S W B' S' W (Refused n)
+      go : (o : Loaded) → load (sizes_of B S) bytes ≡ o → StageLoadParts B S B' S' r o → Begun bytes B S W B' S' W (Err (number_of n))
       go (not_loaded m) q p =
-          let e : n ≡ m = cc (told, p.0) in
-          begun B' S' W (Refused n) (not_loaded m) (same_load h ∙ q) (ap Refused e, p.1, p.2, refl) (ap refused_line e)
+          let e : number_of n ≡ m = cc (ap numbered told, p.0) in
+          begun B' S' W (Err (number_of n)) (not_loaded m) (same_load h ∙ q) (ap Err e, p.1, p.2, refl) (ap refused_line e)
       go (loaded j) q p = absurd (refused_loaded n (header_of j) (sym told ∙ p.0))
 
   -- ---- a job that loads, and its run
@@ -202,25 +201,25 @@ module _ (bytes : List ℕ) (B : JobSlices) (S : StateBuffers) (W : List ℕ) wh
             rests_are = ran_so.0.moves.table.rests_are;
           }
 
-      loaded_begun : Begun bytes B S W B₁ S' W' (At c)
+      loaded_begun : Begun bytes B S W B₁ S' W' (Ok c)
       unfolding shown
       loaded_begun =
-          begun B₁ S' W' (At c) (loaded j) (same_load room ∙ loads) (ap At start_is, job_is, stands_so, stored_so)
-          (ap (λ (x : Listing). shown (At x) (lines_lent B₁ S') W') start_is
+          begun B₁ S' W' (Ok c) (loaded j) (same_load room ∙ loads) (ap Ok start_is, job_is, stands_so, stored_so)
+          (ap (λ (x : Listing). shown (Ok x) (lines_lent B₁ S') W') start_is
           ∙ reached_sheet j (ran_of j).state reach_after (records_in W') (lines_lent B₁ S') laid (ran_of j).ending (ran_of j).dequeues)
 
   pub loaded_begin :
       512 ≤ length W
       → Bytes bytes
-      → (B₁ : JobSlices) (S₁ : StateBuffers) (r : JobLoaded) (h : JobHeader)
+      → (B₁ : JobSlices) (S₁ : StateBuffers) (r : Result JobHeader Refusal) (h : JobHeader)
       → StageLoadDone bytes B S B₁ S₁ r
-      → r ≡ Is h
+      → r ≡ Ok h
       → (S' : StateBuffers) (W' : List ℕ) (c : Listing)
       → RunStored h B₁ S₁ W S' W' c
-      → Begun bytes B S W B₁ S' W' (At c)
+      → Begun bytes B S W B₁ S' W' (Ok c)
   loaded_begin room are_bytes B₁ S₁ r h d told S' W' c k = go (load (sizes_of B S) bytes) refl d.parts
     where
-      go : (o : Loaded) → load (sizes_of B S) bytes ≡ o → StageLoadParts B S B₁ S₁ r o → Begun bytes B S W B₁ S' W' (At c)
-      go (not_loaded n) q p = absurd (refused_loaded n h (sym p.0 ∙ told))
+      go : (o : Loaded) → load (sizes_of B S) bytes ≡ o → StageLoadParts B S B₁ S₁ r o → Begun bytes B S W B₁ S' W' (Ok c)
+      go (not_loaded n) q p = absurd (refused_loaded n h (sym p.0 ∙ ap numbered told))
       go (loaded j) q p =
           loaded_begun are_bytes j q h (same_header (sym told ∙ p.0)) B₁ S₁ p.1 p.2 S' W' c k room

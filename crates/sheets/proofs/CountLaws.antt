@@ -12,8 +12,7 @@ use Rattle.lent.proofs.Laws.{inside}
 use Rattle.reg_matrix.specs.Lists.{concat_map}
 use Rattle.reg_matrix.specs.Lines.{refused_line}
 use Rattle.listing.specs.declared.Listing.{Listing}
-use Rattle.listing.specs.declared.Step.{Step}
-use Rattle.listing.specs.declared.Step.TheVariants.{Line, End as NoMore}
+use Rattle.std.specs.Prelude.{Option, Some, None, Result, Ok}
 use Rattle.texts.specs.Texts.{Stored}
 use Rattle.texts.proofs.StoreLaws.{room_place}
 use Rattle.lines.specs.LineTexts.{Lent}
@@ -50,16 +49,16 @@ module _ (l : Lent) (words : List ℕ) (c₀ : Listing) where
   pub count_start : c₀.header.virt_regs < 65536 → Counted c₀ 0
   count_start h = record { whole = omega arith; small = omega (arith, lines_few c₀ (records_in words) l h) }
 
-  module _ (c : Listing) (n : ℕ) (so : Counted c n) (s t : List ℕ) (long : line_limit ≤ length s) (same : length t ≡ length s) (r : Step) (d : NextLine c l words s t r) where
+  module _ (c : Listing) (n : ℕ) (so : Counted c n) (s t : List ℕ) (long : line_limit ≤ length s) (same : length t ≡ length s) (r : Result (Option (ℕ × Listing)) ℕ) (d : NextLine c l words s t r) where
     -- nothing is left
-    pub count_end : r ≡ NoMore → n ≡ length (text_of c₀)
+    pub count_end : r ≡ Ok None → n ≡ length (text_of c₀)
     unfolding concat_map
     count_end told =
         let none : text_of c ≡ [] = ap (λ (ls : List (List ℕ)). concat_map (λ x. x) ls) (subst (LeftToPrint c l words t) told (d.left long)) in
         omega (arith, so.whole, ap (λ (x : List ℕ). length x) none)
 
-    module _ (k : ℕ) (after : Listing) (told : r ≡ Line k after) where
-      next_left : LeftToPrint c l words t (Line k after)
+    module _ (k : ℕ) (after : Listing) (told : r ≡ Ok (Some (k, after))) where
+      next_left : LeftToPrint c l words t (Ok (Some (k, after)))
       next_left = subst (LeftToPrint c l words t) told (d.left long)
 
       -- the next line lies in the lent one

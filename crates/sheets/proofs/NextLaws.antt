@@ -9,10 +9,9 @@ use borrow.Author.Tests.{le-ltb}
 use Rattle.allocator.specs.declared.Assignment.{Assignment}
 use Rattle.listing.specs.declared.Place.{Place}
 use Rattle.listing.specs.declared.Listing.{Listing}
-use Rattle.listing.specs.declared.Step.{Step}
-use Rattle.listing.specs.declared.Step.TheVariants.{Line, End as NoMore, Refused as NotListed}
+use Rattle.std.specs.Prelude.{Option, Some, None, Result, Ok, Err}
 use Rattle.lines.specs.LineTexts.{Lent}
-use Rattle.listing.specs.Walk.{line_limit, Found, no_more, a_line, found, step_of, AnsweredIfLong, number_at, record_at, lines_from}
+use Rattle.listing.specs.Walk.{line_limit, Found, no_more, a_line, found, step_of, moved, AnsweredIfLong, number_at, record_at, lines_from}
 use Rattle.listing.proofs.LineLaws.{number_small, Room, found_room, Told, next_told}
 use Rattle.record_words.specs.Words.{record_in, records_in}
 use Rattle.record_words.proofs.WordLaws.{record_in_lem}
@@ -24,25 +23,28 @@ record_asked words p = sym (record_in_lem words (number_at p) (number_small p))
 
 module _ (c : Listing) (l : Lent) (words s t : List ℕ) where
   -- the length of a line is within the lent line
-  within : (f : Found) (n : ℕ) (after : Listing) → Room f → Line n after ≡ step_of c f → n ≤ line_limit
+  within : (f : Found) (n : ℕ) (after : Listing) → Room f → ◌≡◌ {A = Option (ℕ × Listing)} (Some (n, after)) (step_of c f) → n ≤ line_limit
   within no_more n after k e = absurd (let z : ◌≡◌ {A = ℕ} 0 1 = cc in omega arith)
-  within (a_line text p) n after k e = let q : n ≡ length text = cc in omega (arith, q, k)
+  within (a_line text p) n after k e =
+      let same : ◌≡◌ {A = ℕ × Listing} (n, after) (length text, moved c p) = cc in
+      omega (arith, ap (λ (x : ℕ × Listing). x.0) same, k)
 
   told_left :
-      (r : Step)
+      (r : Result (Option (ℕ × Listing)) ℕ)
       → line_limit ≤ length s
       → AnsweredIfLong c (found c (record_at (records_in words) c.place) l) s t r
       → Told c (records_in words) l t r
       → LeftToPrint c l words t r
-  told_left NoMore long a k = k
-  told_left (Line n after) long a k =
+  told_left (Ok None) long a k = k
+  told_left (Ok (Some (n, after))) long a k =
       let f = found c (record_at (records_in words) c.place) l in
-      let e : Line n after ≡ step_of c f = a.0 ∙ ap (λ (b : Bool). cond b (NotListed 15) (step_of c f)) (le-ltb (length s) line_limit long) in
+      let k' : ◌≡◌ {A = Result (Option (ℕ × Listing)) ℕ} (Ok (Some (n, after))) (Ok (step_of c f)) = a.0 ∙ ap (λ (b : Bool). cond b (Err 15) (Ok (step_of c f))) (le-ltb (length s) line_limit long) in
+      let e : ◌≡◌ {A = Option (ℕ × Listing)} (Some (n, after)) (step_of c f) = cc in
       (within f n after (found_room c (record_at (records_in words) c.place) l) e, k)
-  told_left (NotListed n) long a k = absurd k
+  told_left (Err n) long a k = absurd k
 
   pub next_line :
-      (r : Step) (n w : ℕ) (a : Assignment)
+      (r : Result (Option (ℕ × Listing)) ℕ) (n w : ℕ) (a : Assignment)
       → n ≡ number_at c.place
       → w ≡ get_or words n 0
       → a ≡ record_in w
@@ -56,12 +58,12 @@ module _ (c : Listing) (l : Lent) (words s t : List ℕ) where
 
   -- fewer lines are left after one
   pub next_fewer :
-      (r : Step) (n : ℕ) (after : Listing)
+      (r : Result (Option (ℕ × Listing)) ℕ) (n : ℕ) (after : Listing)
       → NextLine c l words s t r
-      → r ≡ Line n after
+      → r ≡ Ok (Some (n, after))
       → line_limit ≤ length s
       → length (lines_from after (records_in words) l) < length (lines_from c (records_in words) l)
   next_fewer r n after d told long =
-      let k : LeftToPrint c l words t (Line n after) = subst (LeftToPrint c l words t) told (d.left long) in
+      let k : LeftToPrint c l words t (Ok (Some (n, after))) = subst (LeftToPrint c l words t) told (d.left long) in
       let e : length (lines_from c (records_in words) l) ≡ suc (length (lines_from after (records_in words) l)) = ap (λ (x : List (List ℕ)). length x) k.1 in
       omega (arith, e)

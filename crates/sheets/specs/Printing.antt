@@ -1,6 +1,6 @@
 -- From a job's bytes to the lines printed (document 01, "The printed sheet"): a job is loaded and run with its budget, and then its sheet comes line by
 -- line from a position. Assumes nothing.
-use Rattle.std.specs.Prelude.{ℕ, ◌≤◌, ◌≡◌, List, [], ◌∷◌, ◌++◌, map, false, length, take, drop, get_or}
+use Rattle.std.specs.Prelude.{ℕ, ◌≤◌, ◌≡◌, List, [], ◌∷◌, ◌++◌, map, false, length, take, drop, get_or, Option, Some, None, Result, Ok, Err}
 use Rattle.std.proofs.lemmas.List.Edits.{sets}
 use Rattle.reg_matrix.specs.Lists.{concat_map}
 use Rattle.reg_matrix.specs.Lines.{refused_line}
@@ -22,13 +22,9 @@ use Rattle.stage_loader.specs.StageLoading.{later_job}
 use Rattle.records.specs.Fields.{first_records}
 use Rattle.listing.specs.declared.Listing.{Listing}
 use Rattle.listing.specs.declared.Place.TheVariants.{Head}
-use Rattle.listing.specs.declared.Step.{Step}
-use Rattle.listing.specs.declared.Step.TheVariants.{Line, End as NoMore, Refused as NotListed}
 use Rattle.lines.specs.LineTexts.{Lent, lent}
 use Rattle.listing.specs.Walk.{line_limit, found, AnsweredIfLong, number_at, lines_from}
 use Rattle.record_words.specs.Words.{record_word, record_in, records_in, AllPlain}
-use Rattle.sheets.specs.declared.Printing.{Printing}
-use Rattle.sheets.specs.declared.Printing.TheVariants.{Refused, At}
 
 -- ---- what is lent
 
@@ -74,23 +70,23 @@ abbrev pub lines_lent : JobSlices → StateBuffers → Lent
 lines_lent B S = lent B.j64 S.ends S.rests
 
 -- 01, "The printed sheet": what is printed for an answer: "A refusal prints `refused N` alone", or the lines one after another
-unfoldable pub shown : Printing → Lent → List ℕ → List ℕ
-shown (Refused n) l words = refused_line n
-shown (At c) l words = concat_map (λ x. x) (lines_from c (records_in words) l)
+unfoldable pub shown : Result Listing ℕ → Lent → List ℕ → List ℕ
+shown (Err n) l words = refused_line n
+shown (Ok c) l words = concat_map (λ x. x) (lines_from c (records_in words) l)
 
 -- ---- the contracts
 
-abbrev pub BegunParts : JobSlices → StateBuffers → List ℕ → JobSlices → StateBuffers → List ℕ → Printing → Loaded → Type 0
-BegunParts B S W B' S' W' r (not_loaded n) = (r ≡ Refused n) × (B' ≡ B) × (S' ≡ S) × (W' ≡ W)
+abbrev pub BegunParts : JobSlices → StateBuffers → List ℕ → JobSlices → StateBuffers → List ℕ → Result Listing ℕ → Loaded → Type 0
+BegunParts B S W B' S' W' r (not_loaded n) = (r ≡ Err n) × (B' ≡ B) × (S' ≡ S) × (W' ≡ W)
 BegunParts B S W B' S' W' r (loaded j) =
-    (r ≡ At (start_of (header_of j) (ran_of j).ending (ran_of j).dequeues))
+    (r ≡ Ok (start_of (header_of j) (ran_of j).ending (ran_of j).dequeues))
     × (B' ≡ later_job j B S)
     × (S' ≡ state_in j (ran_of j).state S)
     × (W' ≡ records_on (ran_of j).state W)
 
 -- Of any bytes, with B, S and the words W lent: the answer and what stands there afterwards, where a refusal leaves all as it was; and the lines from
 -- the answered position are together the sheet, which is the printed one where no buffer is short.
-pub record Begun (bytes : List ℕ) (B : JobSlices) (S : StateBuffers) (W : List ℕ) (B' : JobSlices) (S' : StateBuffers) (W' : List ℕ) (r : Printing) : Type 0 where
+pub record Begun (bytes : List ℕ) (B : JobSlices) (S : StateBuffers) (W : List ℕ) (B' : JobSlices) (S' : StateBuffers) (W' : List ℕ) (r : Result Listing ℕ) : Type 0 where
   pub parts : BegunParts B S W B' S' W' r (loaded_with B S W bytes)
   pub shows : shown r (lines_lent B' S') W' ≡ sheet_of (loaded_with B S W bytes)
   pub prints : short_buffer sheet_limits (sheet_sizes B S W) ≡ false → shown r (lines_lent B' S') W' ≡ printed bytes
@@ -109,14 +105,14 @@ pub record RunStored (h : JobHeader) (B : JobSlices) (S : StateBuffers) (W : Lis
 -- ---- one line
 
 -- what is left to print from the position c, by the answer: nothing; or the front of the lent line, and then the lines from the next position
-abbrev pub LeftToPrint : Listing → Lent → List ℕ → List ℕ → Step → Type 0
-LeftToPrint c l words t NoMore = lines_from c (records_in words) l ≡ []
-LeftToPrint c l words t (Line n after) = (n ≤ line_limit) × (lines_from c (records_in words) l ≡ take n t ∷ lines_from after (records_in words) l)
-LeftToPrint c l words t (NotListed n) = ⊥
+abbrev pub LeftToPrint : Listing → Lent → List ℕ → List ℕ → Result (Option (ℕ × Listing)) ℕ → Type 0
+LeftToPrint c l words t (Ok None) = lines_from c (records_in words) l ≡ []
+LeftToPrint c l words t (Ok (Some (n, after))) = (n ≤ line_limit) × (lines_from c (records_in words) l ≡ take n t ∷ lines_from after (records_in words) l)
+LeftToPrint c l words t (Err n) = ⊥
 
 -- The next line from c, over any content of l and the words, in a lent line that was s and is t afterwards: the answer, and how the line is, where a
 -- line that is too short is refused and as it was; and, in a line that is long enough, how the lines from here and from the position after it go
 -- together.
-pub record NextLine (c : Listing) (l : Lent) (words s t : List ℕ) (r : Step) : Type 0 where
+pub record NextLine (c : Listing) (l : Lent) (words s t : List ℕ) (r : Result (Option (ℕ × Listing)) ℕ) : Type 0 where
   pub answered : AnsweredIfLong c (found c (record_in (get_or words (number_at c.place) 0)) l) s t r
   pub left : line_limit ≤ length s → LeftToPrint c l words t r

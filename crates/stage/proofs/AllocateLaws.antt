@@ -2,9 +2,9 @@
 use Prim.Native.Nat.{ℕ, ◌+◌, ◌-◌, ◌≤◌, ◌<◌}
 use native.Mathlib.Omega.{arith}
 use borrow.Author.Tests.{le-ltb}
-use mathlib.Core.Path.{◌≡◌, ap, sym, subst, ◌∙◌}
+use mathlib.Core.Path.{◌≡◌, refl, ap, sym, ◌∙◌}
 use mathlib.Core.List.{List}
-use mathlib.Core.Bool.{Bool, true, false, cond}
+use mathlib.Core.Bool.{Bool, true, false, not, cond}
 use lib.Dec.{ltb}
 use lib.Ieee.{Float}
 use lib.ListN.{length, get_or, drop, drop_of_length-le}
@@ -14,8 +14,7 @@ use Rattle.reg_matrix.specs.Lists.{is_nil, foldl}
 use Rattle.matrix.specs.Walk.{Lent, remaining, heard, entered}
 use Rattle.reg_matrix.specs.declared.Interference.{Interference}
 use Rattle.matrix.specs.declared.Cursor.{Cursor}
-use Rattle.matrix.specs.declared.Step.{Step}
-use Rattle.matrix.specs.declared.Step.TheVariants.{Report, End}
+use Rattle.std.proofs.Common.{Option as Maybe, Some, None, is_some}
 use Rattle.allocator.specs.declared.CandidateReg.{CandidateReg}
 use Rattle.stage.specs.EvictWalk.{tried_below}
 use Rattle.stage.specs.declared.evict.Tried.{Tried}
@@ -23,24 +22,26 @@ use Rattle.stage.specs.declared.evict.Limit.{Limit}
 use Rattle.stage.specs.declared.allocate.Best.{Best}
 use Rattle.order.specs.declared.Offer.TheVariants.{Reg as Offered, Skip, End as NoMore}
 use Rattle.order.specs.OrderWalk.{no_candidate, offer_at, offers_from}
-use Rattle.stage.specs.AllocateWalk.{reports_on, clear_on, none_of, available_in, no_best, by_cost, by_weight, tried_on, taking, improves, better_in, evict_in, prefers, prefer_in}
+use Rattle.stage.specs.AllocateWalk.{reports_on, clear_on, none_of, available_in, cost_so_far, by_cost, by_weight, tried_on, taking, improves, better_of, better_in, evict_in, prefers, preferred_of, prefer_in}
 use Rattle.stage.specs.declared.allocate.Available.TheVariants.{Clear}
 use Rattle.order.proofs.OrderLaws.{offers_step}
 
-module _ (W : Lent) (units : ℕ) (c : Cursor) (x : Step) (starts : c ≡ entered W.ends W.froms units false) (told : remaining W c ≡ heard W x) where
-  -- the first report of a check decides whether it is clear
-  pub clear_end : x ≡ End → true ≡ is_nil (reports_on W units)
-  unfolding reports_on
-  clear_end q = rw (← starts, told, q)
-
-  pub clear_report : (r : Interference) (d : Cursor) → x ≡ Report r d → false ≡ is_nil (reports_on W units)
-  unfolding reports_on
-  clear_report r d q = rw (← starts, told, q)
+-- the first report of a check decides whether it is clear
+pub clear_is_none : (W : Lent) (units : ℕ) (c : Cursor) (x : Maybe (Interference × Cursor)) (b : Bool) → c ≡ entered W.ends W.froms units false → remaining W c ≡ heard W x
+    → not b ≡ is_some x → b ≡ is_nil (reports_on W units)
+unfolding reports_on
+clear_is_none W units c x b starts told is = go x b told is ∙ ap (λ (d : Cursor). is_nil (remaining W d)) starts
+  where
+    go : (x : Maybe (Interference × Cursor)) (b : Bool) → remaining W c ≡ heard W x → not b ≡ is_some x → b ≡ is_nil (remaining W c)
+    go None true e p = rw e refl
+    go None false e p = cc
+    go (Some (r, d)) true e p = cc
+    go (Some (r, d)) false e p = rw e refl
 
 -- a test of the units that were read for a candidate's register
-pub clear_is : (W : Lent) (maps : List ℕ) (c : CandidateReg) (n units : ℕ) (b t : Bool) → n ≡ c.reg → units ≡ get_or maps n 0 → b ≡ is_nil (reports_on W units) → b ≡ t → clear_on W maps c ≡ t
+pub clear_is : (W : Lent) (maps : List ℕ) (c : CandidateReg) (units : ℕ) (b t : Bool) → units ≡ get_or maps c.reg 0 → b ≡ is_nil (reports_on W units) → b ≡ t → clear_on W maps c ≡ t
 unfolding clear_on
-clear_is W maps c n units b t p q r e = rw (← p, ← q, ← r) e
+clear_is W maps c units b t q r e = rw (← q, ← r) e
 
 -- ---- one candidate of the walk for a clear one: the rest from here is the whole
 
@@ -70,14 +71,14 @@ module _ (W : Lent) (maps : List ℕ) (hs : List CandidateReg) (class : List ℕ
       available_end (rw (a, b))
 
 -- what was tried on the units that were read for a candidate's register
-pub tried_is : (l l' : Limit) (W : Lent) (maps : List ℕ) (ws : List Float) (ss : List Float) (c : CandidateReg) (n units : ℕ) (t : Tried)
-    → l ≡ l' → n ≡ c.reg → units ≡ get_or maps n 0 → t ≡ tried_below l ws ss (reports_on W units) → t ≡ tried_on l' W maps ws ss c
+pub tried_is : (l l' : Limit) (W : Lent) (maps : List ℕ) (ws : List Float) (ss : List Float) (c : CandidateReg) (units : ℕ) (t : Maybe Tried)
+    → l ≡ l' → units ≡ get_or maps c.reg 0 → t ≡ tried_below l ws ss (reports_on W units) → t ≡ tried_on l' W maps ws ss c
 unfolding tried_on
-tried_is l l' W maps ws ss c n units t e p q r = r ∙ rw (e, q, p)
+tried_is l l' W maps ws ss c units t e q r = r ∙ rw (e, q)
 
 -- ---- one candidate of the search for a register to evict from
 
-module _ (W : Lent) (maps : List ℕ) (ws : List Float) (ss : List Float) (flag : Bool) (own : Float) (hs : List CandidateReg) (class : List ℕ) (i : ℕ) (b : Best) where
+module _ (W : Lent) (maps : List ℕ) (ws : List Float) (ss : List Float) (flag : Bool) (own : Float) (hs : List CandidateReg) (class : List ℕ) (i : ℕ) (b : Maybe Best) where
   pub evict_end : offer_at hs class i ≡ NoMore → b ≡ evict_in W maps ws ss flag own b (offers_from hs class i)
   unfolding evict_in foldl
   evict_end q = rw (offers_step hs class i, q)
@@ -92,42 +93,51 @@ module _ (W : Lent) (maps : List ℕ) (ws : List Float) (ss : List Float) (flag 
       let q : ltb (i - length hs) (length class) ≡ false = le-ltb (i - length hs) (length class) (omega arith) in
       evict_end (rw (p, q))
 
-  module _ (c : CandidateReg) (q : offer_at hs class i ≡ Offered c) (t : Tried) (e : t ≡ tried_on (by_cost flag own c b.cost) W maps ws ss c) where
-    better_yes : improves flag own c t b.cost ≡ true → taking c t ≡ better_in W maps ws ss flag own b c
-    unfolding better_in
-    better_yes p = subst (λ (u : Tried). taking c t ≡ cond (improves flag own c u b.cost) (taking c u) b) e (rw p)
+  module _ (c : CandidateReg) (q : offer_at hs class i ≡ Offered c) (o : Maybe Tried) (e : o ≡ tried_on (by_cost flag own c (cost_so_far b)) W maps ws ss c) where
+    here : evict_in W maps ws ss flag own (better_of flag own c o b) (offers_from hs class (i + 1)) ≡ evict_in W maps ws ss flag own b (offers_from hs class i)
+    unfolding evict_in foldl better_in
+    here = rw (offers_step hs class i, q, e)
 
-    better_no : improves flag own c t b.cost ≡ false → b ≡ better_in W maps ws ss flag own b c
-    unfolding better_in
-    better_no p = subst (λ (u : Tried). b ≡ cond (improves flag own c u b.cost) (taking c u) b) e (rw p)
+    abbrev then_from : Maybe Best → Maybe Best
+    then_from x = evict_in W maps ws ss flag own x (offers_from hs class (i + 1))
 
-    here : evict_in W maps ws ss flag own (better_in W maps ws ss flag own b c) (offers_from hs class (i + 1)) ≡ evict_in W maps ws ss flag own b (offers_from hs class i)
-    unfolding evict_in foldl
-    here = rw (offers_step hs class i, q)
+    pub evict_out : o ≡ None → evict_in W maps ws ss flag own b (offers_from hs class (i + 1)) ≡ evict_in W maps ws ss flag own b (offers_from hs class i)
+    evict_out n = ap (λ (x : Maybe Tried). then_from (better_of flag own c x b)) (sym n) ∙ here
 
-    pub evict_better : improves flag own c t b.cost ≡ true
-        → evict_in W maps ws ss flag own (taking c t) (offers_from hs class (i + 1)) ≡ evict_in W maps ws ss flag own b (offers_from hs class i)
-    evict_better p = ap (λ (x : Best). evict_in W maps ws ss flag own x (offers_from hs class (i + 1))) (better_yes p) ∙ here
+    module _ (t : Tried) (n : o ≡ Some t) where
+      pub evict_better : improves flag own c t (cost_so_far b) ≡ true
+          → evict_in W maps ws ss flag own (Some (taking c t)) (offers_from hs class (i + 1)) ≡ evict_in W maps ws ss flag own b (offers_from hs class i)
+      evict_better p =
+          ap (λ (z : Bool). then_from (cond z (Some (taking c t)) b)) (sym p) ∙ ap (λ (x : Maybe Tried). then_from (better_of flag own c x b)) (sym n) ∙ here
 
-    pub evict_not : improves flag own c t b.cost ≡ false → evict_in W maps ws ss flag own b (offers_from hs class (i + 1)) ≡ evict_in W maps ws ss flag own b (offers_from hs class i)
-    evict_not p = ap (λ (x : Best). evict_in W maps ws ss flag own x (offers_from hs class (i + 1))) (better_no p) ∙ here
+      pub evict_not : improves flag own c t (cost_so_far b) ≡ false
+          → evict_in W maps ws ss flag own b (offers_from hs class (i + 1)) ≡ evict_in W maps ws ss flag own b (offers_from hs class i)
+      evict_not p =
+          ap (λ (z : Bool). then_from (cond z (Some (taking c t)) b)) (sym p) ∙ ap (λ (x : Maybe Tried). then_from (better_of flag own c x b)) (sym n) ∙ here
 
 -- ---- one hinted candidate of the search for a preferred one
 
 module _ (W : Lent) (maps : List ℕ) (ws : List Float) (ss : List Float) (clear : CandidateReg) (hs : List CandidateReg) (i : ℕ) where
-  pub prefer_end : length hs ≤ i → no_best ≡ prefer_in W maps ws ss clear (drop i hs)
+  pub prefer_end : length hs ≤ i → None ≡ prefer_in W maps ws ss clear (drop i hs)
   unfolding prefer_in
   prefer_end h = rw (drop_of_length-le hs h)
 
-  module _ (h : i < length hs) (c : CandidateReg) (q : c ≡ get_or hs i no_candidate) (t : Tried) (e : t ≡ tried_on (by_weight c) W maps ws ss c) where
-    hinted_here : prefer_in W maps ws ss clear (drop i hs) ≡ cond (prefers clear c (tried_on (by_weight c) W maps ws ss c)) (taking c (tried_on (by_weight c) W maps ws ss c)) (prefer_in W maps ws ss clear (drop (i + 1) hs))
+  module _ (h : i < length hs) (c : CandidateReg) (q : c ≡ get_or hs i no_candidate) (o : Maybe Tried) (e : o ≡ tried_on (by_weight c) W maps ws ss c) where
+    abbrev rest : Maybe Best
+    rest = prefer_in W maps ws ss clear (drop (i + 1) hs)
+
+    hinted_here : prefer_in W maps ws ss clear (drop i hs) ≡ preferred_of clear c o rest
     unfolding prefer_in
-    hinted_here = rw (q, add-one, drop-cons hs i no_candidate)
+    hinted_here = rw (e, q, add-one, drop-cons hs i no_candidate)
 
-    pub prefer_yes : prefers clear c t ≡ true → taking c t ≡ prefer_in W maps ws ss clear (drop i hs)
-    prefer_yes p =
-        subst (λ (u : Tried). taking c t ≡ cond (prefers clear c u) (taking c u) (prefer_in W maps ws ss clear (drop (i + 1) hs))) e (rw p) ∙ sym hinted_here
+    pub prefer_out : o ≡ None → prefer_in W maps ws ss clear (drop (i + 1) hs) ≡ prefer_in W maps ws ss clear (drop i hs)
+    prefer_out n = ap (λ (x : Maybe Tried). preferred_of clear c x rest) (sym n) ∙ sym hinted_here
 
-    pub prefer_no : prefers clear c t ≡ false → prefer_in W maps ws ss clear (drop (i + 1) hs) ≡ prefer_in W maps ws ss clear (drop i hs)
-    prefer_no p =
-        subst (λ (u : Tried). prefer_in W maps ws ss clear (drop (i + 1) hs) ≡ cond (prefers clear c u) (taking c u) (prefer_in W maps ws ss clear (drop (i + 1) hs))) e (rw p) ∙ sym hinted_here
+    module _ (t : Tried) (n : o ≡ Some t) where
+      pub prefer_yes : prefers clear c t ≡ true → Some (taking c t) ≡ prefer_in W maps ws ss clear (drop i hs)
+      prefer_yes p =
+          ap (λ (z : Bool). cond z (Some (taking c t)) rest) (sym p) ∙ ap (λ (x : Maybe Tried). preferred_of clear c x rest) (sym n) ∙ sym hinted_here
+
+      pub prefer_no : prefers clear c t ≡ false → prefer_in W maps ws ss clear (drop (i + 1) hs) ≡ prefer_in W maps ws ss clear (drop i hs)
+      prefer_no p =
+          ap (λ (z : Bool). cond z (Some (taking c t)) rest) (sym p) ∙ ap (λ (x : Maybe Tried). preferred_of clear c x rest) (sym n) ∙ sym hinted_here

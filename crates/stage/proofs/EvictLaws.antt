@@ -15,8 +15,7 @@ use Rattle.reg_matrix.specs.declared.InterferenceKind.{InterferenceKind}
 use Rattle.reg_matrix.specs.declared.InterferenceKind.TheVariants.{Fixed, VirtReg}
 use Rattle.matrix.specs.Walk.{Lent, remaining, heard}
 use Rattle.matrix.specs.declared.Cursor.{Cursor}
-use Rattle.matrix.specs.declared.Step.{Step}
-use Rattle.matrix.specs.declared.Step.TheVariants.{Report, End}
+use Rattle.std.proofs.Common.{Option as Maybe, Some, None}
 use Rattle.job.specs.Model.{Job, zero_weight}
 use Rattle.allocator.specs.State.{State, held_by, weight_of}
 use Rattle.allocator.specs.Evict.{ruled_out, is_fixed, holder, holders, firsts, max_weight, spill_weight, weights, greatest_spill, cost_of}
@@ -75,14 +74,15 @@ module _ (ws : List Float) (ss : List Float) where
   sum_over w vs = foldl (λ w v. add binary32 w (weight_in ws v)) w vs
 
   -- what the walk over reports of the holders hs finds, after those of vs
-  pub record Rule (hs : List ℕ) (k : EvictCost) (w : Float) (vs : List ℕ) (t : Tried) : Type 0 where
-    pub clean : t.ruled_out ≡ false
+  pub record Rule (hs : List ℕ) (k : EvictCost) (w : Float) (vs : List ℕ) (o : Maybe Tried) : Type 0 where
+    pub t : Tried
+    pub is : o ≡ Some t
     pub cost : t.cost ≡ cost_over k (firsts vs hs)
     pub every : t.every_report ≡ sum_over w hs
     pub who : Seen t.holders (before hs vs)
 
   -- what one report of the holder v adds
-  abbrev more : List Interference → EvictCost → Float → List Bool → ℕ → Tried
+  abbrev more : List Interference → EvictCost → Float → List Bool → ℕ → Maybe Tried
   more xs k w seen v =
       cond (ltb v 512)
       (cond (get_or seen v false) (try_reports ws ss xs k (add binary32 w (weight_in ws v)) seen) (try_reports ws ss xs (holder_cost ws ss k v) (add binary32 w (weight_in ws v)) (set seen v true)))
@@ -92,7 +92,7 @@ module _ (ws : List Float) (ss : List Float) where
   pub rule : (xs : List Interference) (k : EvictCost) (w : Float) (seen : List Bool) (vs : List ℕ) → Small (holders xs) → Seen seen vs → ruled_out xs ≡ false
       → Rule (holders xs) k w vs (try_reports ws ss xs k w seen)
   unfolding try_reports holders concat_map firsts ruled_out any foldl
-  rule [] k w seen vs s f r = record { clean = refl; cost = refl; every = refl; who = f }
+  rule [] k w seen vs s f r = record { t = tried k w seen; is = refl; cost = refl; every = refl; who = f }
   rule (x ∷ xs) k w seen vs s f r = step x.kind s r (λ k w seen vs m f q. rule xs k w seen vs m f q)
     where
       Rest : Type 0
@@ -105,31 +105,31 @@ module _ (ws : List Float) (ss : List Float) where
       one v h m q go true e =
           let again = go k (add binary32 w (weight_in ws v)) seen (v ∷ vs) m (seen_again seen vs v e f) q in
           let known : has v vs ≡ true = sym (f.place v h) ∙ e in
-          rw (lt-ltb v 512 h) (record { clean = again.clean; cost = rw known again.cost; every = again.every; who = again.who })
+          rw (lt-ltb v 512 h) (record { t = again.t; is = again.is; cost = rw known again.cost; every = again.every; who = again.who })
       one v h m q go false e =
           let later = go (holder_cost ws ss k v) (add binary32 w (weight_in ws v)) (set seen v true) (v ∷ vs) m (seen_more seen vs v h f) q in
           let new : has v vs ≡ false = sym (f.place v h) ∙ e in
-          rw (lt-ltb v 512 h) (record { clean = later.clean; cost = rw new later.cost; every = later.every; who = later.who })
+          rw (lt-ltb v 512 h) (record { t = later.t; is = later.is; cost = rw new later.cost; every = later.every; who = later.who })
 
       step : (kd : InterferenceKind) → Small (holder kd ++ holders xs) → (is_fixed kd || ruled_out xs) ≡ false → Rest
-          → Rule (holder kd ++ holders xs) k w vs (on_kind kd (tried k w seen true) (more xs k w seen))
+          → Rule (holder kd ++ holders xs) k w vs (on_kind kd (more xs k w seen))
       step Fixed s r go = let z : ◌≡◌ {A = ℕ} 0 1 = cc in absurd (omega arith)
       step (VirtReg v) s r go = one v s.0 s.1 r go (get_or seen v false) refl
 
   -- where one is fixed, the walk says so
-  pub rule_out : (xs : List Interference) (k : EvictCost) (w : Float) (seen : List Bool) → ruled_out xs ≡ true → (try_reports ws ss xs k w seen).ruled_out ≡ true
+  pub rule_out : (xs : List Interference) (k : EvictCost) (w : Float) (seen : List Bool) → ruled_out xs ≡ true → try_reports ws ss xs k w seen ≡ None
   unfolding try_reports ruled_out any
   rule_out [] k w seen r = let z : ◌≡◌ {A = ℕ} 0 1 = cc in absurd (omega arith)
   rule_out (x ∷ xs) k w seen r = step x.kind r (λ k w seen q. rule_out xs k w seen q)
     where
       Rest : Type 0
-      Rest = (k : EvictCost) (w : Float) (seen : List Bool) → ruled_out xs ≡ true → (try_reports ws ss xs k w seen).ruled_out ≡ true
+      Rest = (k : EvictCost) (w : Float) (seen : List Bool) → ruled_out xs ≡ true → try_reports ws ss xs k w seen ≡ None
 
-      either_way : (b : Bool) (t u : Tried) → t.ruled_out ≡ true → u.ruled_out ≡ true → (cond b t u).ruled_out ≡ true
+      either_way : (b : Bool) (t u : Maybe Tried) → t ≡ None → u ≡ None → cond b t u ≡ None
       either_way true t u p q = p
       either_way false t u p q = q
 
-      step : (kd : InterferenceKind) → (is_fixed kd || ruled_out xs) ≡ true → Rest → (on_kind kd (tried k w seen true) (more xs k w seen)).ruled_out ≡ true
+      step : (kd : InterferenceKind) → (is_fixed kd || ruled_out xs) ≡ true → Rest → on_kind kd (more xs k w seen) ≡ None
       step Fixed r go = refl
       step (VirtReg v) r go =
           either_way (ltb v 512) _ _ (either_way (get_or seen v false) _ _ (go k (add binary32 w (weight_in ws v)) seen r) (go (holder_cost ws ss k v) (add binary32 w (weight_in ws v)) (set seen v true) r)) (go k w seen r)
@@ -180,8 +180,9 @@ module _ (j : Job) (s : State) (ws : List Float) (ss : List Float)
       kept false r = r
 
   -- what the code's walk over the reports finds, where none is fixed
-  pub record Found (xs : List Interference) (t : Tried) : Type 0 where
-    pub clean : t.ruled_out ≡ false
+  pub record Found (xs : List Interference) (o : Maybe Tried) : Type 0 where
+    pub t : Tried
+    pub is : o ≡ Some t
     pub cost : t.cost ≡ cost_of j s xs
     pub every : t.every_report ≡ weights s (holders xs)
     pub who : (v : ℕ) → v < 512 → get_or t.holders v false ≡ has v (holders xs)
@@ -191,7 +192,8 @@ module _ (j : Job) (s : State) (ws : List Float) (ss : List Float)
   found xs m r =
       let q = rule ws ss xs zero_cost zero_weight (replicate 512 false) [] m none_seen r in
       record {
-        clean = q.clean;
+        t = q.t;
+        is = q.is;
         cost = q.cost ∙ cost_over_lem zero_cost (firsts [] (holders xs)) (first_small [] (holders xs) m);
         every = q.every ∙ sum_over_lem zero_weight (holders xs) m;
         who = λ v h. q.who.place v h ∙ has_before v (holders xs) [] ∙ or_none v;
@@ -206,24 +208,17 @@ module _ (j : Job) (s : State) (ws : List Float) (ss : List Float)
 
 -- ---- one report of the code's loop: the rest of the walk from here is the whole
 
--- what was tried so far, where nothing ruled the candidate out
-pub going_on : (t : Tried) → t.ruled_out ≡ false → t ≡ tried t.cost t.every_report t.holders false
-going_on t e = ap (λ (b : Bool). tried t.cost t.every_report t.holders b) e
-
-module _ (W : Lent) (c : Cursor) (x : Step) (told : remaining W c ≡ heard W x) (r : Interference) (d : Cursor) (q : x ≡ Report r d) where
+module _ (W : Lent) (c : Cursor) (x : Maybe (Interference × Cursor)) (told : remaining W c ≡ heard W x) (r : Interference) (d : Cursor) (q : x ≡ Some (r, d)) where
   pub next_is : remaining W c ≡ r ∷ remaining W d
   next_is = told ∙ rw q
 
-  pub next_less : length (remaining W d) < length (remaining W c)
-  next_less = rw next_is (omega arith)
-
-module _ (l : Limit) (ws : List Float) (ss : List Float) (W : Lent) (c : Cursor) (x : Step) (k : EvictCost) (w : Float) (seen : List Bool) (told : remaining W c ≡ heard W x) where
-  pub below_end : x ≡ End → tried k w seen false ≡ try_below l ws ss (remaining W c) k w seen
+module _ (l : Limit) (ws : List Float) (ss : List Float) (W : Lent) (c : Cursor) (x : Maybe (Interference × Cursor)) (k : EvictCost) (w : Float) (seen : List Bool) (told : remaining W c ≡ heard W x) where
+  pub below_end : x ≡ None → Some (tried k w seen) ≡ try_below l ws ss (remaining W c) k w seen
   unfolding try_below
   below_end q = rw (told, q)
 
-  module _ (r : Interference) (d : Cursor) (q : x ≡ Report r d) where
-    pub below_fixed : r.kind ≡ Fixed → tried k w seen true ≡ try_below l ws ss (remaining W c) k w seen
+  module _ (r : Interference) (d : Cursor) (q : x ≡ Some (r, d)) where
+    pub below_fixed : r.kind ≡ Fixed → None ≡ try_below l ws ss (remaining W c) k w seen
     unfolding try_below
     below_fixed p = rw (next_is W c x told r d q, p)
 
@@ -238,6 +233,6 @@ module _ (l : Limit) (ws : List Float) (ss : List Float) (W : Lent) (c : Cursor)
         unfolding try_below
         below_more n = rw (next_is W c x told r d q, p, small, ← ek, ← ew, n)
 
-        pub below_stop : can_win l k' w' ≡ false → tried k' w' (set seen v true) true ≡ try_below l ws ss (remaining W c) k w seen
+        pub below_stop : can_win l k' w' ≡ false → None ≡ try_below l ws ss (remaining W c) k w seen
         unfolding try_below
         below_stop n = rw (next_is W c x told r d q, p, small, ← ek, ← ew, n)

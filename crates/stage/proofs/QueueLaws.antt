@@ -27,7 +27,7 @@ use Rattle.allocator.specs.declared.Stage.TheVariants.{Evict, Split}
 use Rattle.allocator.specs.Queue.{encode, Queued, ahead, next_from}
 use Rattle.allocator.specs.Layout.{pair_max, rounds, key_word, queue_words}
 use Rattle.queue.proofs.Turns.{play_length}
-use Rattle.queue.specs.declared.Next.TheVariants.{Number}
+use Rattle.std.proofs.Common.{Some}
 use Rattle.queue.specs.QueueWalk.{key_of, decoded, play_at, climb, set_word, first_word, leaves_from, play_from, filled, next_number}
 
 -- ---- rounds
@@ -394,7 +394,7 @@ two true = inl refl
 two false = inr refl
 
 -- a key names its number and its stage
-key_decoded : (j : Job) (v : ℕ) (q : Stage) → v < 512 → decoded (encode j v q + 1) ≡ Number v q
+key_decoded : (j : Job) (v : ℕ) (q : Stage) → v < 512 → decoded (encode j v q + 1) ≡ Some (v, q)
 unfolding encode decoded
 key_decoded j v Evict h =
     let z = cond (is_nil (virt_reg j v).hints) 0 (2 ^ 62) in

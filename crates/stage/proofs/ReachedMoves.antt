@@ -17,7 +17,8 @@ use Rattle.reg_matrix.proofs.Laws.{Matrix}
 use Rattle.entries.specs.Moves.{Words, words}
 use Rattle.entries.specs.Placing.{Assigned, Evicted}
 use Rattle.unit_free.specs.Spare.{free_at, range}
-use Rattle.entries.specs.declared.Moved.{Moved}
+use Rattle.std.proofs.Common.{Result}
+use Rattle.reg_matrix.specs.declared.Refusal.{Refusal}
 use Rattle.table_words.proofs.Decode.{fits_word}
 use Rattle.placing.proofs.Standing.{Stands}
 use Rattle.placing.proofs.Lying.{UsesLie}
@@ -59,7 +60,7 @@ module _ (j : Job) (s : State) (g : Good j s) where
       (λ e m. fits_word e.reservation (k.small e m).reservation) u from to a b
 
   module _ (et rt ut uses : List ℕ) (w w' : Words) (st : Stands s.table et rt w) (lie : UsesLie j.fixed ut uses) (v m : ℕ) (fs ts : List ℕ)
-      (ends : ts ≡ map (λ x. x.to) (segments_of j v)) (c : CandidateReg) (units : m ≡ unit_map j c.reg) (r : Moved) where
+      (ends : ts ≡ map (λ x. x.to) (segments_of j v)) (c : CandidateReg) (units : m ≡ unit_map j c.reg) (r : Result (Unit {0}) Refusal) where
     -- `assign` where the number is idle and the candidate clear: the table is that of `give`
     pub assign_gives :
         fs ≡ map (λ x. x.from) (segments_of j v)

@@ -1,6 +1,6 @@
 -- A dequeue's searches on a state that calls reach: what the code finds clear, best to evict from or preferred is what the rules find, and whom it
 -- would evict are the rule's evictees. Assumes nothing.
-use Prim.Native.Nat.{ℕ, ◌+◌, ◌-◌, ◌≤◌, ◌<◌}
+use Prim.Native.Nat.{ℕ, ◌+◌, ◌-◌, ◌<◌}
 use native.Mathlib.Omega.{arith}
 use mathlib.Core.Path.{◌≡◌, refl, sym, ap, ◌∙◌, subst}
 use mathlib.Core.List.Memᴰ
@@ -8,6 +8,7 @@ use mathlib.Core.List.{List, [], ◌∷◌, ◌++◌, map, append-nil}
 use mathlib.Core.Option.{Option, none, some}
 use mathlib.Core.Bool.{Bool, true, false, not, ◌&&◌, ◌||◌, cond}
 use lib.Dec.{T}
+use Rattle.std.proofs.Common.{Option as Maybe, Some, None}
 use lib.Ieee.{Float, binary32, add, lt, eq}
 use lib.Ieee.Bits.{of_bits-fits}
 use lib.ListN.{length, get_or, length-map, get_or-map}
@@ -16,7 +17,7 @@ use Rattle.reg_matrix.specs.Check.{check}
 use Rattle.reg_matrix.specs.declared.Interference.{Interference}
 use Rattle.reg_matrix.specs.declared.InterferenceKind.{InterferenceKind}
 use Rattle.reg_matrix.specs.declared.InterferenceKind.TheVariants.{Fixed, VirtReg}
-use Rattle.reg_matrix.proofs.Members.{◌∈◌, filter_none, concat_out, count_out, get_d_in}
+use Rattle.reg_matrix.proofs.Members.{◌∈◌, filter_none, concat_out, count_out}
 use Rattle.reg_matrix.proofs.Places.{padded_read, from_zero, filter_append, count_append}
 use Rattle.reg_matrix.proofs.Laws.{report_cell}
 use Rattle.matrix.specs.Walk.{Lent}
@@ -37,14 +38,13 @@ use Rattle.allocator.specs.Dequeue.{Decision, leaves, evictees_of, none_clear, b
 use Rattle.allocator.proofs.Holders.{cell_out}
 use Rattle.allocator.proofs.Agrees.{last_named}
 use Rattle.allocator.proofs.Decisions.{Candidates, candidates_out, hinted_good, order_good, has_out}
-use Rattle.allocator.proofs.Capacity.{hinted_length, held_plain, spill_plain}
+use Rattle.allocator.proofs.Capacity.{held_plain, spill_plain}
 use Rattle.allocator.proofs.Rebuilt.{named_known}
 use Rattle.allocator.proofs.Good.{Good}
 use Rattle.allocator.proofs.Records.{held_record}
-use Rattle.evict_costs.specs.Costs.{may_evict}
 use Rattle.stage.specs.EvictWalk.{weight_in, tried_of}
 use Rattle.records.specs.Fields.{record_weight}
-use Rattle.stage.specs.AllocateWalk.{reports_on, clear_on, none_of, available_in, no_best, taking, tried_on, improves, better_in, evict_in, prefers, prefer_in}
+use Rattle.stage.specs.AllocateWalk.{reports_on, clear_on, none_of, available_in, cost_so_far, taking, tried_on, improves, better_of, better_in, evict_in, prefers, preferred_of, prefer_in}
 use Rattle.stage.specs.declared.evict.Tried.{Tried}
 use Rattle.stage.specs.declared.allocate.Best.{Best}
 use Rattle.stage.specs.declared.allocate.Available.{Available}
@@ -76,14 +76,6 @@ module _ (j : Job) (s : State) (g : Good j s) (v : ℕ) (b : IsNumber j v) where
 
   pub order_small : SmallRegs (order j v own_hinted)
   order_small = small_regs (order j v own_hinted) (order_good j g.premises v b own_hinted hinted_are)
-
-  -- at most 65 hinted ones, and with the class 129
-  pub hinted_few : length own_hinted ≤ 65
-  hinted_few = omega (arith, hinted_length (virt_reg j v) (last_given j s v), g.premises.few_own_hints v b)
-
-  pub candidates_few : length own_hinted + length (class_of j v) ≤ 129
-  candidates_few =
-      omega (arith, hinted_few, g.premises.small_classes (class_of j v) (get_d_in j.classes (virt_reg j v).class [] (g.premises.a_class v b)))
 
 -- ---- what else is lent to a search
 
@@ -191,10 +183,10 @@ module _ (j : Job) (s : State) (g : Good j s) (v : ℕ) (b : IsNumber j v) (W : 
   costs c = cost_of j s (reported c)
 
   -- what all its reports say, in the code; and the best with it, as far as it may still win
-  abbrev tried : CandidateReg → Tried
+  abbrev tried : CandidateReg → Maybe Tried
   tried c = tried_of ws ss (reports_on W (get_or maps c.reg 0))
 
-  abbrev better_here : Best → CandidateReg → Best
+  abbrev better_here : Maybe Best → CandidateReg → Maybe Best
   better_here = better_in W maps ws ss (flag s v) (spill_weight j v)
 
   reports_read : (c : CandidateReg) → c.reg < 64 → reports_on W (get_or maps c.reg 0) ≡ reported c
@@ -274,68 +266,56 @@ module _ (j : Job) (s : State) (g : Good j s) (v : ℕ) (b : IsNumber j v) (W : 
       (found j s ws ss (held_read j s g maps ws ss S) (spill_read j s g maps ws ss S) (reported c) (reported_small j s g v c.reg) q)
 
   -- a fixed report rules it out
-  pub ruled_out_found : (c : CandidateReg) → c.reg < 64 → (tried c).ruled_out ≡ ruled_out (reported c)
+  pub ruled_out_found : (c : CandidateReg) → c.reg < 64 → ruled_out (reported c) ≡ true → tried c ≡ None
   unfolding tried_of
-  ruled_out_found c h = go (ruled_out (reported c)) refl
-    where
-      go : (z : Bool) → ruled_out (reported c) ≡ z → (tried c).ruled_out ≡ z
-      go true q = rule_out ws ss (reports_on W (get_or maps c.reg 0)) _ _ _ (ap ruled_out (reports_read c h) ∙ q)
-      go false q = (tried_found c h q).clean
+  ruled_out_found c h q = rule_out ws ss (reports_on W (get_or maps c.reg 0)) _ _ _ (ap ruled_out (reports_read c h) ∙ q)
 
   -- ---- the search for a register to evict from
 
   -- it found the candidate c: at what cost, and whom c evicts
-  pub record Finds (best : Best) (c : CandidateReg) : Type 0 where
-    pub found : best.found ≡ true
-    pub to : best.to ≡ c
-    pub cost : best.cost ≡ costs c
-    pub evicts : filter (λ w. get_or best.holders w false) (count 0 512) ≡ evictees_of j s v c
+  pub record Finds (best : Maybe Best) (c : CandidateReg) : Type 0 where
+    pub it : Best
+    pub found : best ≡ Some it
+    pub to : it.to ≡ c
+    pub cost : it.cost ≡ costs c
+    pub evicts : filter (λ w. get_or it.holders w false) (count 0 512) ≡ evictees_of j s v c
 
-  takes_it : (c : CandidateReg) → c.reg < 64 → ruled_out (reported c) ≡ false → Finds (taking c (tried c)) c
-  takes_it c h q =
-      let f = tried_found c h q in
-      record { found = refl; to = refl; cost = f.cost; evicts = marked_evictees j s g v c.reg (tried c).holders f.who }
+  takes_it : (c : CandidateReg) → FoundOn c → (t : Tried) → tried c ≡ Some t → Finds (Some (taking c t)) c
+  takes_it c f t e =
+      let same : t ≡ f.t = cc (sym e ∙ f.is) in
+      record {
+        it = taking c t;
+        found = refl;
+        to = refl;
+        cost = rw same f.cost;
+        evicts = marked_evictees j s g v c.reg t.holders (λ w m. rw same (f.who w m));
+      }
 
   -- nothing found, or an eviction
-  abbrev pub BestIs : Best → Option Eviction → Type 0
-  BestIs best none = best ≡ no_best
-  BestIs best (some e) = Finds best e.to × (best.cost ≡ e.cost)
+  abbrev pub BestIs : Maybe Best → Option Eviction → Type 0
+  BestIs best none = best ≡ None
+  BestIs best (some e) = Finds best e.to × (cost_so_far best ≡ e.cost)
 
-  abbrev improves_by : CandidateReg → EvictCost → Bool
-  improves_by c best =
-      let xs = reported c in
-      not (ruled_out xs) && (allowed j s v c (cost_of j s xs) && cheaper (cost_of j s xs) best)
+  turned : (w f l : Bool) → (l || (not f && not w)) ≡ ((not w && not f) || l)
+  turned true true true = refl
+  turned true true false = refl
+  turned true false true = refl
+  turned true false false = refl
+  turned false true true = refl
+  turned false true false = refl
+  turned false false true = refl
+  turned false false false = refl
 
-  improves_is : (c : CandidateReg) → c.reg < 64 → (best : EvictCost) → improves (flag s v) (spill_weight j v) c (tried c) best ≡ improves_by c best
-  improves_is c h best = rw (ruled_out_found c h) (go (ruled_out (reported c)) refl)
-    where
-      turned : (w f l : Bool) → (l || (not f && not w)) ≡ ((not w && not f) || l)
-      turned true true true = refl
-      turned true true false = refl
-      turned true false true = refl
-      turned true false false = refl
-      turned false true true = refl
-      turned false true false = refl
-      turned false false true = refl
-      turned false false false = refl
+  -- whether a candidate that nothing rules out is better
+  improves_is : (c : CandidateReg) (t : Tried) (best : EvictCost) → t.cost ≡ costs c
+      → improves (flag s v) (spill_weight j v) c t best ≡ (allowed j s v c (costs c) && cheaper (costs c) best)
+  improves_is c t best e =
+      subst
+      (λ (d : EvictCost). improves (flag s v) (spill_weight j v) c t best ≡ (allowed j s v c d && cheaper d best)) e
+      (ap (λ (z : Bool). z && cheaper t.cost best) (turned (eq (weight c) zero_weight) (flag s v) (lt t.cost.spill_weight (spill_weight j v))))
 
-      same : (k : EvictCost) → k ≡ costs c
-          → (may_evict (weight c) (flag s v) k.spill_weight (spill_weight j v) && cheaper k best)
-          ≡ (allowed j s v c (costs c) && cheaper (costs c) best)
-      same k e =
-          subst
-          (λ (d : EvictCost).
-          (may_evict (weight c) (flag s v) k.spill_weight (spill_weight j v) && cheaper k best) ≡ (allowed j s v c d && cheaper d best)) e
-          (ap (λ (z : Bool). z && cheaper k best) (turned (eq (weight c) zero_weight) (flag s v) (lt k.spill_weight (spill_weight j v))))
-
-      go : (z : Bool) → ruled_out (reported c) ≡ z
-          → (not z && (may_evict (weight c) (flag s v) (tried c).cost.spill_weight (spill_weight j v) && cheaper (tried c).cost best))
-          ≡ (not z && (allowed j s v c (costs c) && cheaper (costs c) best))
-      go true q = refl
-      go false q = same (tried c).cost (tried_found c h q).cost
-
-  best_cost_lem : (best : Best) (o : Option Eviction) → BestIs best o → best.cost ≡ best_cost o
-  best_cost_lem best none q = ap (λ (x : Best). x.cost) q
+  best_cost_lem : (best : Maybe Best) (o : Option Eviction) → BestIs best o → cost_so_far best ≡ best_cost o
+  best_cost_lem best none q = ap cost_so_far q
   best_cost_lem best (some e) q = q.1
 
   -- the weights that are added and compared
@@ -356,45 +336,58 @@ module _ (j : Job) (s : State) (g : Good j s) (v : ℕ) (b : IsNumber j v) (W : 
       go (u ∷ us) w b =
           go us (add binary32 w (weight_of (held_by s u))) (more_sum w (weight_of (held_by s u)) b (held_plain j g.premises s g.holding g.agrees u (held_by s u) refl))
 
-  best_good : (best : Best) (o : Option Eviction) → BestIs best o → GoodSum best.cost.preference_weight
+  best_good : (best : Maybe Best) (o : Option Eviction) → BestIs best o → GoodSum (cost_so_far best).preference_weight
   unfolding cost_of
   best_good best none q =
-      subst (λ (x : Best). GoodSum x.cost.preference_weight) (sym q) (record { plain = plain_infinite; fits_in = of_bits-fits binary32 0x7F80_0000 })
-  best_good best (some e) q = subst (λ (k : EvictCost). GoodSum k.preference_weight) (sym q.0.cost) (weights_good (firsts [] (holders (reported e.to))))
+      subst (λ (x : Maybe Best). GoodSum (cost_so_far x).preference_weight) (sym q) (record { plain = plain_infinite; fits_in = of_bits-fits binary32 0x7F80_0000 })
+  best_good best (some e) q =
+      let k : cost_so_far best ≡ costs e.to = ap cost_so_far q.0.found ∙ q.0.cost in
+      subst (λ (k : EvictCost). GoodSum k.preference_weight) (sym k) (weights_good (firsts [] (holders (reported e.to))))
 
   -- stopping early changes nothing
-  better_whole : (best : Best) (o : Option Eviction) (c : CandidateReg) → BestIs best o
-      → better_here best c ≡ cond (improves (flag s v) (spill_weight j v) c (tried c) best.cost) (taking c (tried c)) best
+  better_whole : (best : Maybe Best) (o : Option Eviction) (c : CandidateReg) → BestIs best o
+      → better_here best c ≡ better_of (flag s v) (spill_weight j v) c (tried c) best
   unfolding better_in tried_on
   better_whole best o c q =
       better_same ws ss held_plain_here spill_plain_here (reports_on W (get_or maps c.reg 0)) (flag s v) (spill_weight j v) c best (best_good best o q)
 
-  better_is : (best : Best) (o : Option Eviction) (c : CandidateReg) → c.reg < 64 → BestIs best o → BestIs (better_here best c) (better j s v o c)
+  better_is : (best : Maybe Best) (o : Option Eviction) (c : CandidateReg) → c.reg < 64 → BestIs best o → BestIs (better_here best c) (better j s v o c)
   unfolding better
-  better_is best o c h q =
-      subst (λ (x : Best). BestIs x (better j s v o c)) (sym (better_whole best o c q))
-      (subst (λ (z : Bool). BestIs (cond z (taking c (tried c)) best) (better j s v o c))
-      (sym (improves_is c h best.cost ∙ ap (improves_by c) (best_cost_lem best o q)))
-      (go (improves_by c (best_cost o)) refl))
+  better_is best o c h q = subst (λ (x : Maybe Best). BestIs x (better j s v o c)) (sym (better_whole best o c q)) (go (ruled_out (reported c)) refl)
     where
-      open_one : (r z : Bool) → (not r && z) ≡ true → r ≡ false
-      open_one true z e = absurd (let y : ◌≡◌ {A = ℕ} 0 1 = cc in omega arith)
-      open_one false z e = refl
+      wins : Bool
+      wins = allowed j s v c (costs c) && cheaper (costs c) (best_cost o)
 
-      go : (z : Bool) → improves_by c (best_cost o) ≡ z
-          → BestIs (cond z (taking c (tried c)) best) (cond z (some (record { to = c; cost = costs c })) o)
-      go true e = let f = takes_it c h (open_one (ruled_out (reported c)) _ e) in (f, f.cost)
-      go false e = q
+      by_tried : Maybe Tried → Maybe Best
+      by_tried x = better_of (flag s v) (spill_weight j v) c x best
+
+      last : (t : Tried) → Finds (Some (taking c t)) c → t.cost ≡ costs c → (z : Bool)
+          → BestIs (cond z (Some (taking c t)) best) (cond z (some (record { to = c; cost = costs c })) o)
+      last t f k true = (f, k)
+      last t f k false = q
+
+      open_one : (f : FoundOn c) → BestIs (by_tried (Some f.t)) (cond wins (some (record { to = c; cost = costs c })) o)
+      open_one f =
+          let e : improves (flag s v) (spill_weight j v) c f.t (cost_so_far best) ≡ wins =
+          improves_is c f.t (cost_so_far best) f.cost ∙ ap (λ (k : EvictCost). allowed j s v c (costs c) && cheaper (costs c) k) (best_cost_lem best o q) in
+          subst (λ (z : Bool). BestIs (cond z (Some (taking c f.t)) best) (cond wins (some (record { to = c; cost = costs c })) o)) (sym e)
+          (last f.t (takes_it c f f.t f.is) f.cost wins)
+
+      go : (z : Bool) → ruled_out (reported c) ≡ z → BestIs (by_tried (tried c)) (cond (not z && wins) (some (record { to = c; cost = costs c })) o)
+      go true e = subst (λ (x : Maybe Tried). BestIs (by_tried x) o) (sym (ruled_out_found c h e)) q
+      go false e =
+          let f = tried_found c h e in
+          subst (λ (x : Maybe Tried). BestIs (by_tried x) (cond wins (some (record { to = c; cost = costs c })) o)) (sym f.is) (open_one f)
 
   -- the best eviction
-  pub eviction_found : (cs : List CandidateReg) → SmallRegs cs → BestIs (evict_in W maps ws ss (flag s v) (spill_weight j v) no_best cs) (try_evict j s v cs)
+  pub eviction_found : (cs : List CandidateReg) → SmallRegs cs → BestIs (evict_in W maps ws ss (flag s v) (spill_weight j v) None cs) (try_evict j s v cs)
   unfolding evict_in try_evict foldl
-  eviction_found cs h = go cs h no_best none refl
+  eviction_found cs h = go cs h None none refl
     where
       go :
           (cs : List CandidateReg)
           → SmallRegs cs
-          → (best : Best) (o : Option Eviction)
+          → (best : Maybe Best) (o : Option Eviction)
           → BestIs best o
           → BestIs (foldl better_here best cs) (foldl (better j s v) o cs)
       go [] h best o q = q
@@ -403,19 +396,9 @@ module _ (j : Job) (s : State) (g : Good j s) (v : ℕ) (b : IsNumber j v) (W : 
 
   -- ---- the search for a preferred register
 
-  abbrev pub PreferredIs : Best → Option CandidateReg → Type 0
-  PreferredIs best none = best ≡ no_best
+  abbrev pub PreferredIs : Maybe Best → Option CandidateReg → Type 0
+  PreferredIs best none = best ≡ None
   PreferredIs best (some c) = Finds best c
-
-  prefers_is : (clear c : CandidateReg) → c.reg < 64 → prefers clear c (tried c) ≡ preferred j s v clear c
-  unfolding preferred
-  prefers_is clear c h = rw (ruled_out_found c h) (go (ruled_out (reported c)) refl)
-    where
-      go : (z : Bool) → ruled_out (reported c) ≡ z
-          → (lt (weight clear) (weight c) && (not z && lt (tried c).every_report (weight c)))
-          ≡ (lt (weight clear) (weight c) && (not z && lt (weights s (holders (reported c))) (weight c)))
-      go true q = refl
-      go false q = ap (λ (w : Float). lt (weight clear) (weight c) && lt w (weight c)) (tried_found c h q).every
 
   -- the first preferred candidate
   pub preferred_found :
@@ -425,21 +408,45 @@ module _ (j : Job) (s : State) (g : Good j s) (v : ℕ) (b : IsNumber j v) (W : 
   unfolding prefer_in first preferred tried_on
   preferred_found clear [] h = refl
   preferred_found clear (c ∷ cs) h =
-      subst (λ (x : Best). PreferredIs x (first (preferred j s v clear) (c ∷ cs)))
+      subst (λ (x : Maybe Best). PreferredIs x (first (preferred j s v clear) (c ∷ cs)))
       (sym (preferred_same ws ss held_plain_here spill_plain_here (reports_on W (get_or maps c.reg 0)) clear c (prefer_in W maps ws ss clear cs)))
-      (subst (λ (z : Bool). PreferredIs (cond z (taking c (tried c)) (prefer_in W maps ws ss clear cs)) (first (preferred j s v clear) (c ∷ cs)))
-      (sym (prefers_is clear c (h c (Memᴰ.head refl))))
-      (go (preferred j s v clear c) refl (preferred_found clear cs (λ d m. h d (Memᴰ.tail m)))))
+      (go (ruled_out (reported c)) refl (preferred_found clear cs (λ d m. h d (Memᴰ.tail m))))
     where
-      not_ruled_out : (a r z : Bool) → (a && (not r && z)) ≡ true → r ≡ false
-      not_ruled_out true true z e = absurd (let y : ◌≡◌ {A = ℕ} 0 1 = cc in omega arith)
-      not_ruled_out true false z e = refl
-      not_ruled_out false r z e = absurd (let y : ◌≡◌ {A = ℕ} 0 1 = cc in omega arith)
+      small : c.reg < 64
+      small = h c (Memᴰ.head refl)
 
-      go : (z : Bool) → preferred j s v clear c ≡ z
-          → PreferredIs (prefer_in W maps ws ss clear cs) (first (preferred j s v clear) cs)
-          → PreferredIs (cond z (taking c (tried c)) (prefer_in W maps ws ss clear cs)) (or_else z c (first (preferred j s v clear) cs))
+      rest : Maybe Best
+      rest = prefer_in W maps ws ss clear cs
+
+      first_here : Bool
+      first_here = lt (weight clear) (weight c)
+
+      outweighs : Bool
+      outweighs = lt (weights s (holders (reported c))) (weight c)
+
+      last : (t : Tried) → Finds (Some (taking c t)) c → PreferredIs rest (first (preferred j s v clear) cs) → (z : Bool)
+          → PreferredIs (cond z (Some (taking c t)) rest) (or_else z c (first (preferred j s v clear) cs))
+      last t f ih true = f
+      last t f ih false = ih
+
+      open_one : (f : FoundOn c) → PreferredIs rest (first (preferred j s v clear) cs)
+          → PreferredIs (preferred_of clear c (Some f.t) rest) (or_else (first_here && outweighs) c (first (preferred j s v clear) cs))
+      open_one f ih =
+          let e : prefers clear c f.t ≡ (first_here && outweighs) = ap (λ (w : Float). first_here && lt w (weight c)) f.every in
+          subst (λ (z : Bool). PreferredIs (cond z (Some (taking c f.t)) rest) (or_else (first_here && outweighs) c (first (preferred j s v clear) cs))) (sym e)
+          (last f.t (takes_it c f f.t f.is) ih (first_here && outweighs))
+
+      none_here : (z : Bool) → (z && false) ≡ false
+      none_here true = refl
+      none_here false = refl
+
+      go : (z : Bool) → ruled_out (reported c) ≡ z
+          → PreferredIs rest (first (preferred j s v clear) cs)
+          → PreferredIs (preferred_of clear c (tried c) rest) (or_else (first_here && (not z && outweighs)) c (first (preferred j s v clear) cs))
       go true e ih =
-          takes_it c (h c (Memᴰ.head refl))
-          (not_ruled_out (lt (weight clear) (weight c)) (ruled_out (reported c)) (lt (weights s (holders (reported c))) (weight c)) e)
-      go false e ih = ih
+          subst (λ (x : Maybe Tried). PreferredIs (preferred_of clear c x rest) (or_else (first_here && false) c (first (preferred j s v clear) cs)))
+          (sym (ruled_out_found c small e))
+          (subst (λ (z : Bool). PreferredIs rest (or_else z c (first (preferred j s v clear) cs))) (sym (none_here first_here)) ih)
+      go false e ih =
+          let f = tried_found c small e in
+          subst (λ (x : Maybe Tried). PreferredIs (preferred_of clear c x rest) (or_else (first_here && outweighs) c (first (preferred j s v clear) cs))) (sym f.is) (open_one f ih)

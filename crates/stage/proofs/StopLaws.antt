@@ -5,13 +5,14 @@ use native.Mathlib.Omega.{arith}
 use mathlib.Core.Path.{◌≡◌, refl, ap, sym, ◌∙◌, subst}
 use mathlib.Core.Logic.{◌⊎◌, inl, inr}
 use mathlib.Core.List.{List, [], ◌∷◌}
-use mathlib.Core.Bool.{Bool, true, false, not, ◌&&◌, ◌||◌, cond, and-false}
+use mathlib.Core.Bool.{Bool, true, false, ◌&&◌, ◌||◌, cond, and-false}
 use lib.Dec.{T, ltb, eqb}
 use lib.Ieee.{Float, binary32, of_bits, of_fields, odd, fits, add, lt}
 use lib.Ieee.Fits.{add-fits}
 use lib.Ieee.Bits.{of_bits-fits}
 use lib.ListN.{get_or, set, replicate}
 use lib.Seq.{set-get_or}
+use Rattle.std.proofs.Common.{Option as Maybe, Some, None}
 use borrow.Author.Tests.{le-ltb, ltb-true, ltb-false, eq-eqb, eqb-true}
 use Rattle.reg_matrix.specs.declared.Interference.{Interference}
 use Rattle.reg_matrix.specs.declared.InterferenceKind.{InterferenceKind}
@@ -21,11 +22,12 @@ use Rattle.allocator.specs.declared.CandidateReg.{CandidateReg}
 use Rattle.allocator.specs.declared.EvictCost.{EvictCost}
 use Rattle.allocator.specs.Evict.{cheaper, max_weight}
 use Rattle.allocator.proofs.Weights.{signed, plain_zero, plain_cond, plain_add}
-use Rattle.evict_costs.specs.Costs.{add_holder, may_evict, with_holder}
-use Rattle.stage.specs.EvictWalk.{weight_in, zero_cost, tried, on_kind, try_reports, tried_of, can_win, try_below, tried_below}
-use Rattle.stage.specs.AllocateWalk.{taking, improves, prefers, by_cost, by_weight}
+use Rattle.evict_costs.specs.Costs.{add_holder, with_holder}
+use Rattle.stage.specs.EvictWalk.{weight_in, zero_cost, on_kind, try_reports, tried_of, can_win, try_below, tried_below}
+use Rattle.stage.specs.AllocateWalk.{cost_so_far, taking, better_of, preferred_of, by_cost, by_weight}
 use Rattle.stage.specs.declared.evict.Tried.{Tried}
 use Rattle.stage.specs.declared.evict.Limit.{Limit}
+use Rattle.stage.specs.declared.evict.Limit.TheVariants.{ByCost, ByWeight}
 use Rattle.stage.specs.declared.allocate.Best.{Best}
 use Rattle.stage.proofs.WeightOrder.{key, lt_key, eq_key, add_up, not_above, not_both}
 
@@ -109,25 +111,26 @@ cheaper_back k best h s g b ph ps e =
 
 -- ---- what a search wants of a candidate
 
-module _ (l : Limit) (best_good : GoodSum l.best.preference_weight) where
+-- the best so far costs a sum of weights
+abbrev pub GoodLimit : Limit → Type 0
+GoodLimit (ByCost w f own best) = GoodSum best.preference_weight
+GoodLimit (ByWeight w) = Unit {0}
+
+module _ (l : Limit) (best_good : GoodLimit l) where
   -- what wins with one holder more won before
   win_back : (k : EvictCost) (w h s : Float) → GoodCost k → GoodSum w → Plain h → Plain s
       → (seen : Bool) → can_win l (with_holder k seen h s) (add binary32 w h) ≡ true → can_win l k w ≡ true
-  win_back k w h s g gw ph ps seen e = go l.by_cost seen e
+  win_back k w h s g gw ph ps seen e = go l best_good seen e
     where
-      may : may_evict l.weight l.flag (max_weight k.spill_weight s) l.own ≡ true → may_evict l.weight l.flag k.spill_weight l.own ≡ true
-      may = or_in _ _ _ _ (spill_back k.spill_weight s l.own g.spill ps) (λ q. q)
-
       all : (a b c d : Bool) → (a ≡ true → c ≡ true) → (b ≡ true → d ≡ true) → (a && b) ≡ true → (c && d) ≡ true
       all true b c d f h e = rw (f refl) (h e)
       all false b c d f h e = absurd (signed (sym e))
 
-      go : (t seen : Bool)
-          → cond t (may_evict l.weight l.flag (with_holder k seen h s).spill_weight l.own && cheaper (with_holder k seen h s) l.best) (lt (add binary32 w h) l.weight) ≡ true
-          → cond t (may_evict l.weight l.flag k.spill_weight l.own && cheaper k l.best) (lt w l.weight) ≡ true
-      go true true e = e
-      go true false e = all _ _ _ _ may (cheaper_back k l.best h s g best_good ph ps) e
-      go false seen e = sum_back w h l.weight gw ph e
+      go : (l : Limit) → GoodLimit l → (seen : Bool) → can_win l (with_holder k seen h s) (add binary32 w h) ≡ true → can_win l k w ≡ true
+      go (ByCost lw f own best) gl true e = e
+      go (ByCost lw f own best) gl false e =
+          all _ _ _ _ (or_in _ _ _ _ (spill_back k.spill_weight s own g.spill ps) (λ q. q)) (cheaper_back k best h s g gl ph ps) e
+      go (ByWeight lw) gl seen e = sum_back w h lw gw ph e
 
   lost_stays : (k : EvictCost) (w h s : Float) → GoodCost k → GoodSum w → Plain h → Plain s
       → (seen : Bool) → can_win l k w ≡ false → can_win l (with_holder k seen h s) (add binary32 w h) ≡ false
@@ -154,8 +157,9 @@ module _ (l : Limit) (best_good : GoodSum l.best.preference_weight) where
     one_holder xs k w seen v false e = refl
 
     -- the candidate does not win in the end
-    abbrev pub Lost : Tried → Type 0
-    Lost t = (t.ruled_out ≡ true) ⊎ (can_win l t.cost t.every_report ≡ false)
+    abbrev pub Lost : Maybe Tried → Type 0
+    Lost None = Unit {0}
+    Lost (Some t) = can_win l t.cost t.every_report ≡ false
 
     abbrev NextCost : EvictCost → List Bool → ℕ → EvictCost
     NextCost k seen v = with_holder k (get_or seen v false) (weight_in ws v) (get_or ss v zero_weight)
@@ -163,7 +167,7 @@ module _ (l : Limit) (best_good : GoodSum l.best.preference_weight) where
     stays_lost : (xs : List Interference) (k : EvictCost) (w : Float) (seen : List Bool) → GoodCost k → GoodSum w → can_win l k w ≡ false
         → Lost (try_reports ws ss xs k w seen)
     unfolding try_reports
-    stays_lost [] k w seen g gw e = inr e
+    stays_lost [] k w seen g gw e = e
     stays_lost (x ∷ xs) k w seen g gw e = step x.kind (λ k w seen g gw e. stays_lost xs k w seen g gw e)
       where
         Rest : Type 0
@@ -183,17 +187,17 @@ module _ (l : Limit) (best_good : GoodSum l.best.preference_weight) where
 
         step : (kd : InterferenceKind) → Rest
             → Lost
-            (on_kind kd (tried k w seen true)
+            (on_kind kd
             (λ v.
             cond (ltb v 512)
             (cond (get_or seen v false) (try_reports ws ss xs k (add binary32 w (weight_in ws v)) seen) (try_reports ws ss xs (add_holder k (weight_in ws v) (get_or ss v zero_weight)) (add binary32 w (weight_in ws v)) (set seen v true)))
             (try_reports ws ss xs k w seen)))
-        step Fixed go = inl refl
+        step Fixed go = tt
         step (VirtReg v) go = small go v (ltb v 512) refl
 
     -- the walk that stops finds the same, or it stopped, and then the candidate does not win
-    abbrev pub SameOrLost : Tried → Tried → Type 0
-    SameOrLost t' t = (t' ≡ t) ⊎ ((t'.ruled_out ≡ true) × Lost t)
+    abbrev pub SameOrLost : Maybe Tried → Maybe Tried → Type 0
+    SameOrLost t' t = (t' ≡ t) ⊎ ((t' ≡ None) × Lost t)
 
     same_or_lost : (xs : List Interference) (k : EvictCost) (w : Float) (seen : List Bool) → GoodCost k → GoodSum w
         → SameOrLost (try_below l ws ss xs k w seen) (try_reports ws ss xs k w seen)
@@ -206,7 +210,7 @@ module _ (l : Limit) (best_good : GoodSum l.best.preference_weight) where
 
         next : (v : ℕ) → v < 512 → Rest → (z : Bool) → can_win l (NextCost k seen v) (add binary32 w (weight_in ws v)) ≡ z
             → SameOrLost
-            (cond z (try_below l ws ss xs (NextCost k seen v) (add binary32 w (weight_in ws v)) (set seen v true)) (tried (NextCost k seen v) (add binary32 w (weight_in ws v)) (set seen v true) true))
+            (cond z (try_below l ws ss xs (NextCost k seen v) (add binary32 w (weight_in ws v)) (set seen v true)) None)
             (try_reports ws ss xs (NextCost k seen v) (add binary32 w (weight_in ws v)) (set seen v true))
         next v b go true q = go (NextCost k seen v) (add binary32 w (weight_in ws v)) (set seen v true) (more_cost k _ _ g (held v b) (spills v b) (get_or seen v false)) (more_sum w _ gw (held v b))
         next v b go false q =
@@ -218,25 +222,25 @@ module _ (l : Limit) (best_good : GoodSum l.best.preference_weight) where
         small : Rest → (v : ℕ) (t : Bool) → ltb v 512 ≡ t
             → SameOrLost
             (cond t
-            (cond (can_win l (NextCost k seen v) (add binary32 w (weight_in ws v))) (try_below l ws ss xs (NextCost k seen v) (add binary32 w (weight_in ws v)) (set seen v true)) (tried (NextCost k seen v) (add binary32 w (weight_in ws v)) (set seen v true) true))
+            (cond (can_win l (NextCost k seen v) (add binary32 w (weight_in ws v))) (try_below l ws ss xs (NextCost k seen v) (add binary32 w (weight_in ws v)) (set seen v true)) None)
             (try_below l ws ss xs k w seen))
             (cond t
             (cond (get_or seen v false) (try_reports ws ss xs k (add binary32 w (weight_in ws v)) seen) (try_reports ws ss xs (add_holder k (weight_in ws v) (get_or ss v zero_weight)) (add binary32 w (weight_in ws v)) (set seen v true)))
             (try_reports ws ss xs k w seen))
         small go v true q =
-            subst (SameOrLost (cond (can_win l (NextCost k seen v) (add binary32 w (weight_in ws v))) (try_below l ws ss xs (NextCost k seen v) (add binary32 w (weight_in ws v)) (set seen v true)) (tried (NextCost k seen v) (add binary32 w (weight_in ws v)) (set seen v true) true)))
+            subst (SameOrLost (cond (can_win l (NextCost k seen v) (add binary32 w (weight_in ws v))) (try_below l ws ss xs (NextCost k seen v) (add binary32 w (weight_in ws v)) (set seen v true)) None))
             (sym (one_holder xs k w seen v (get_or seen v false) refl))
             (next v (ltb-true v 512 q) go (can_win l (NextCost k seen v) (add binary32 w (weight_in ws v))) refl)
         small go v false q = go k w seen g gw
 
         step : (kd : InterferenceKind) → Rest
             → SameOrLost
-            (on_kind kd (tried k w seen true)
+            (on_kind kd
             (λ v.
             cond (ltb v 512)
-            (cond (can_win l (NextCost k seen v) (add binary32 w (weight_in ws v))) (try_below l ws ss xs (NextCost k seen v) (add binary32 w (weight_in ws v)) (set seen v true)) (tried (NextCost k seen v) (add binary32 w (weight_in ws v)) (set seen v true) true))
+            (cond (can_win l (NextCost k seen v) (add binary32 w (weight_in ws v))) (try_below l ws ss xs (NextCost k seen v) (add binary32 w (weight_in ws v)) (set seen v true)) None)
             (try_below l ws ss xs k w seen)))
-            (on_kind kd (tried k w seen true)
+            (on_kind kd
             (λ v.
             cond (ltb v 512)
             (cond (get_or seen v false) (try_reports ws ss xs k (add binary32 w (weight_in ws v)) seen) (try_reports ws ss xs (add_holder k (weight_in ws v) (get_or ss v zero_weight)) (add binary32 w (weight_in ws v)) (set seen v true)))
@@ -250,40 +254,34 @@ module _ (l : Limit) (best_good : GoodSum l.best.preference_weight) where
 
 -- ---- so the searches choose the same
 
-no_win : (r z : Bool) → (r ≡ true) ⊎ (z ≡ false) → (not r && z) ≡ false
-no_win r z (inl e) = rw e refl
-no_win true z (inr e) = refl
-no_win false z (inr e) = e
-
 module _ (ws : List Float) (ss : List Float) (held : (v : ℕ) → v < 512 → Plain (weight_in ws v)) (spills : (v : ℕ) → v < 512 → Plain (get_or ss v zero_weight))
     (xs : List Interference) where
   -- by cost
-  pub better_same : (flag : Bool) (own : Float) (c : CandidateReg) (b : Best) → GoodSum b.cost.preference_weight
-      → cond (improves flag own c (tried_below (by_cost flag own c b.cost) ws ss xs) b.cost) (taking c (tried_below (by_cost flag own c b.cost) ws ss xs)) b
-      ≡ cond (improves flag own c (tried_of ws ss xs) b.cost) (taking c (tried_of ws ss xs)) b
+  pub better_same : (flag : Bool) (own : Float) (c : CandidateReg) (b : Maybe Best) → GoodSum (cost_so_far b).preference_weight
+      → better_of flag own c (tried_below (by_cost flag own c (cost_so_far b)) ws ss xs) b ≡ better_of flag own c (tried_of ws ss xs) b
   better_same flag own c b g =
-      go (tried_below (by_cost flag own c b.cost) ws ss xs) (tried_of ws ss xs) (stopped (by_cost flag own c b.cost) g ws ss held spills xs)
+      go (tried_below (by_cost flag own c (cost_so_far b)) ws ss xs) (tried_of ws ss xs) (stopped (by_cost flag own c (cost_so_far b)) g ws ss held spills xs)
     where
-      go : (t' t : Tried) → SameOrLost (by_cost flag own c b.cost) g ws ss held spills t' t
-          → cond (improves flag own c t' b.cost) (taking c t') b ≡ cond (improves flag own c t b.cost) (taking c t) b
-      go t' t (inl e) = rw e refl
-      go t' t (inr (r, e)) =
-          ap (λ (z : Bool). cond z (taking c t') b) (no_win t'.ruled_out _ (inl r))
-          ∙ sym (ap (λ (z : Bool). cond z (taking c t) b) (no_win t.ruled_out _ e))
+      lost : (t : Maybe Tried) → Lost (by_cost flag own c (cost_so_far b)) g ws ss held spills t → better_of flag own c t b ≡ b
+      lost None e = refl
+      lost (Some t) e = ap (λ (z : Bool). cond z (Some (taking c t)) b) e
+
+      go : (t' t : Maybe Tried) → SameOrLost (by_cost flag own c (cost_so_far b)) g ws ss held spills t' t → better_of flag own c t' b ≡ better_of flag own c t b
+      go t' t (inl e) = ap (λ (t : Maybe Tried). better_of flag own c t b) e
+      go t' t (inr (r, e)) = ap (λ (t : Maybe Tried). better_of flag own c t b) r ∙ sym (lost t e)
 
   -- by weight
-  pub preferred_same : (clear c : CandidateReg) (b : Best)
-      → cond (prefers clear c (tried_below (by_weight c) ws ss xs)) (taking c (tried_below (by_weight c) ws ss xs)) b
-      ≡ cond (prefers clear c (tried_of ws ss xs)) (taking c (tried_of ws ss xs)) b
-  preferred_same clear c b =
-      go (tried_below (by_weight c) ws ss xs) (tried_of ws ss xs) (stopped (by_weight c) zero_sum ws ss held spills xs)
+  pub preferred_same : (clear c : CandidateReg) (b : Maybe Best)
+      → preferred_of clear c (tried_below (by_weight c) ws ss xs) b ≡ preferred_of clear c (tried_of ws ss xs) b
+  preferred_same clear c b = go (tried_below (by_weight c) ws ss xs) (tried_of ws ss xs) (stopped (by_weight c) tt ws ss held spills xs)
     where
       first : Bool
       first = lt clear.preference_weight c.preference_weight
 
-      go : (t' t : Tried) → SameOrLost (by_weight c) zero_sum ws ss held spills t' t
-          → cond (prefers clear c t') (taking c t') b ≡ cond (prefers clear c t) (taking c t) b
-      go t' t (inl e) = rw e refl
-      go t' t (inr (r, e)) =
-          ap (λ (z : Bool). cond z (taking c t') b) (ap (λ (z : Bool). first && z) (no_win t'.ruled_out _ (inl r)) ∙ and-false first)
-          ∙ sym (ap (λ (z : Bool). cond z (taking c t) b) (ap (λ (z : Bool). first && z) (no_win t.ruled_out _ e) ∙ and-false first))
+      lost : (t : Maybe Tried) → Lost (by_weight c) tt ws ss held spills t → preferred_of clear c t b ≡ b
+      lost None e = refl
+      lost (Some t) e = ap (λ (z : Bool). cond z (Some (taking c t)) b) (ap (λ (z : Bool). first && z) e ∙ and-false first)
+
+      go : (t' t : Maybe Tried) → SameOrLost (by_weight c) tt ws ss held spills t' t → preferred_of clear c t' b ≡ preferred_of clear c t b
+      go t' t (inl e) = ap (λ (t : Maybe Tried). preferred_of clear c t b) e
+      go t' t (inr (r, e)) = ap (λ (t : Maybe Tried). preferred_of clear c t b) r ∙ sym (lost t e)

@@ -8,50 +8,51 @@ ghost use Rattle.stage.specs.AllocateWalk.{reports_on};
 
 use allocator::EvictCost;
 use evict_costs::{is_cheaper, may_evict, with_holder};
-use lent::at_float;
-use matrix::Step;
+use lent::at;
 use matrix::check::enter;
 use record_words::held_at;
 use reg_matrix::InterferenceKind;
 
-// What a check's reports say of a candidate: the cost with each holder counted once, the holders' weights added at every report, who the
-// holders are, and whether a fixed report rules the candidate out.
+// What a check's reports say of a candidate that no fixed report rules out: the cost with each holder counted once, the holders' weights added at every
+// report, and who the holders are.
 #[derive(Clone, Copy)]
 pub struct Tried {
     pub cost: EvictCost,
     pub every_report: f32,
     pub holders: [bool; 512],
-    pub ruled_out: bool,
 }
 
-// What a search still wants of a candidate of this weight. By cost: that its holders may be evicted for a number with this flag and spill weight, and
-// cost less than the best so far. Else: that their weights, added at every report, stay below its own.
+// What a search still wants of a candidate of this weight. By cost: that its holders may be evicted for a number with this flag and spill weight `own`,
+// and cost less than the best so far. By weight: that their weights, added at every report, stay below its own.
 #[derive(Clone, Copy)]
-pub struct Limit {
-    pub by_cost: bool,
-    pub weight: f32,
-    pub flag: bool,
-    pub own: f32,
-    pub best: EvictCost,
+pub enum Limit {
+    ByCost {
+        weight: f32,
+        flag: bool,
+        own: f32,
+        best: EvictCost,
+    },
+    ByWeight(f32),
 }
 
 // Whether a candidate may still win at this cost and with this sum at every report.
 pub fn can_win(limit: Limit, cost: EvictCost, every_report: f32) -> bool
     ensures { result ≡ can_win limit cost every_report }
 {
-    if limit.by_cost {
-        if may_evict(limit.weight, limit.flag, cost.spill_weight, limit.own) {
-            let best = limit.best;
-            return is_cheaper(cost, best);
-        }
-        return false;
+    match limit {
+        Limit::ByCost {
+            weight,
+            flag,
+            own,
+            best,
+        } => may_evict(weight, flag, cost.spill_weight, own) && is_cheaper(cost, best),
+        Limit::ByWeight(weight) => every_report < weight,
     }
-    every_report < limit.weight
 }
 
 // Nothing reported yet.
 fn nothing_tried() -> Tried
-    ensures { result ≡ tried zero_cost zero_weight (replicate 512 false) false }
+    ensures { result ≡ tried zero_cost zero_weight (replicate 512 false) }
 {
     Tried {
         cost: EvictCost {
@@ -60,14 +61,13 @@ fn nothing_tried() -> Tried
         },
         every_report: 0.0,
         holders: [false; 512],
-        ruled_out: false,
     }
 }
 
 impl Limit {
     // What the check of the segments on a register's units says of evicting its holders, where `words` has the records: each holder once for the cost,
-    // and at every report for the sum, in the order of the reports. It ends where the candidate can no longer win, which rules it out; as weights never
-    // fall when they are added, the rest would not help it.
+    // and at every report for the sum, in the order of the reports. A fixed report rules the candidate out, and so does one after which it can no longer
+    // win; as weights never fall when they are added, the rest would not help it.
     pub fn try_reports(
         self,
         units: u64,
@@ -79,35 +79,27 @@ impl Limit {
         froms: &[u32],
         tos: &[u32],
         values: &[u16],
-    ) -> Tried
+    ) -> Option<Tried>
         ensures { result ≡ tried_below self (held_in words.now) spills.now (reports_on (lent ends.now rests.now uses.now froms.now tos.now values.now) units) }
     {
         let mut t = nothing_tried();
         let mut c = enter(ends, froms, units, false);
-        loop {
-            let Step::Report(report, next) = c.next(ends, rests, uses, froms, tos, values) else {
-                return t;
-            };
-            let kind = report.kind;
-            let InterferenceKind::VirtReg(v) = kind else {
-                t.ruled_out = true;
-                return t;
+        while let Some((report, next)) = c.next(ends, rests, uses, froms, tos, values) {
+            let InterferenceKind::VirtReg(v) = report.kind else {
+                return None;
             };
             c = next;
             let i = v as usize;
             if i < 512 {
                 let weight = held_at(words, i);
-                let seen = t.holders[i];
-                let before = t.cost;
-                let cost = with_holder(before, seen, weight, at_float(spills, i));
-                t.cost = cost;
-                t.every_report = t.every_report + weight;
+                t.cost = with_holder(t.cost, t.holders[i], weight, at(spills, i));
+                t.every_report += weight;
                 t.holders[i] = true;
-                if !can_win(self, cost, t.every_report) {
-                    t.ruled_out = true;
-                    return t;
+                if !can_win(self, t.cost, t.every_report) {
+                    return None;
                 }
             }
         }
+        Some(t)
     }
 }

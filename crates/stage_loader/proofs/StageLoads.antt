@@ -12,6 +12,10 @@ use lib.Dec.{T, ltb}
 use lib.ListN.{length, take, drop, get_or, replicate, length-map, length-append, length-replicate}
 use lib.Seq.{sets, sets-eq, drop-append_seam}
 use borrow.Author.Tests.{lt-ltb, le-ltb}
+use Rattle.std.specs.Prelude.{Result, Ok, Err}
+use Rattle.reg_matrix.specs.Refused.{numbered}
+use Rattle.reg_matrix.specs.declared.Refusal.{Refusal}
+use Rattle.reg_matrix.specs.declared.Refusal.TheVariants.{ShortBuffer}
 use Rattle.lent.specs.Parts.{Begins}
 use Rattle.reg_matrix.specs.Lists.{count, concat_map, ◌∈◌}
 use Rattle.reg_matrix.specs.Refusals.{short_buffer}
@@ -29,8 +33,6 @@ use Rattle.allocator.specs.State.{fresh_state, assignment, record_of, records}
 use Rattle.allocator.specs.Layout.{StateBuffers, stage_limits, queue_words, last_word, last_words}
 use Rattle.allocator.specs.Calls.{load}
 use Rattle.allocator.proofs.Loading.{stage_premises}
-use Rattle.loader.specs.declared.load.JobLoaded.{JobLoaded}
-use Rattle.loader.specs.declared.load.JobLoaded.TheVariants.{Is, Refused}
 use Rattle.loader.specs.Loading as loading
 use Rattle.loader.specs.Loading.{Lent, lent, later, LoadParts, LoadDone}
 use Rattle.queue.specs.QueueWalk.{first_word, filled}
@@ -82,21 +84,21 @@ records_first j =
     ∙ ap (assignment false false) (replicate_default 512 v none))
     0 512)
 
-abbrev count_of : JobLoaded → ℕ
-count_of (Is h) = h.virt_regs
-count_of (Refused n) = 0
+abbrev count_of : Result JobHeader Refusal → ℕ
+count_of (Ok h) = h.virt_regs
+count_of (Err e) = 0
 
 -- the header is the same where the answers are
-pub same_header : {h k : JobHeader} → Is h ≡ Is k → h ≡ k
+pub same_header : {h k : JobHeader} → ◌≡◌ {A = Result JobHeader Refusal} (Ok h) (Ok k) → h ≡ k
 same_header {h} e = ap header e
   where
-    header : JobLoaded → JobHeader
-    header (Is x) = x
-    header (Refused n) = h
+    header : Result JobHeader Refusal → JobHeader
+    header (Ok x) = x
+    header (Err n) = h
 
-abbrev is_loaded : JobLoaded → Bool
-is_loaded (Is h) = true
-is_loaded (Refused n) = false
+abbrev is_loaded : {E : Type 0} → Result JobHeader E → Bool
+is_loaded (Ok h) = true
+is_loaded (Err e) = false
 
 -- ---- the job's lists in its slices
 
@@ -221,27 +223,27 @@ module _ (bytes : List ℕ) (B : JobSlices) (S : StateBuffers) where
   same_load e = rw e
 
   -- the queue's buffer or the last registers' is short
-  pub short_load : (length S.queue < 1024) ⊎ (length S.last < 512) → StageLoadDone bytes B S B S (Refused 15)
+  pub short_load : (length S.queue < 1024) ⊎ (length S.last < 512) → StageLoadDone bytes B S B S (Err ShortBuffer)
   short_load h =
       record {
         parts =
-            subst (StageLoadParts B S B S (Refused 15))
+            subst (StageLoadParts B S B S (Err ShortBuffer))
             (sym (refused_15 (all_short ∙ ap (λ (b : Bool). short_buffer load_limits (loading.sizes_of below) || b) (two_short (length S.queue) (length S.last) h) ∙ or-true (short_buffer load_limits (loading.sizes_of below)))))
             (refl, refl, refl);
       }
 
-  module _ (roomy : 1024 ≤ length S.queue) (roomy' : 512 ≤ length S.last) (B' : JobSlices) (ends' rests' : List ℕ) (r : JobLoaded) (d : LoadDone bytes below (lent B' ends' rests') r) where
+  module _ (roomy : 1024 ≤ length S.queue) (roomy' : 512 ≤ length S.last) (B' : JobSlices) (ends' rests' : List ℕ) (r : Result JobHeader Refusal) (d : LoadDone bytes below (lent B' ends' rests') r) where
     loads_same : load_with load_limits (loading.sizes_of below) bytes ≡ load (sizes_of B S) bytes
     loads_same =
         same_load
         (all_short ∙ ap (λ (b : Bool). short_buffer load_limits (loading.sizes_of below) || b) (two_long (length S.queue) (length S.last) roomy roomy')
         ∙ or-false (short_buffer load_limits (loading.sizes_of below)))
 
-    pub refused_load : (n : ℕ) → r ≡ Refused n → StageLoadDone bytes B S B' (lent_state ends' rests' S.queue S.last) (Refused n)
-    refused_load n told = record { parts = subst (StageLoadParts B S B' (lent_state ends' rests' S.queue S.last) (Refused n)) loads_same (go (load_with load_limits (loading.sizes_of below) bytes) d.parts) }
+    pub refused_load : (n : Refusal) → r ≡ Err n → StageLoadDone bytes B S B' (lent_state ends' rests' S.queue S.last) (Err n)
+    refused_load n told = record { parts = subst (StageLoadParts B S B' (lent_state ends' rests' S.queue S.last) (Err n)) loads_same (go (load_with load_limits (loading.sizes_of below) bytes) d.parts) }
       where
-        go : (o : Loaded) → LoadParts below (lent B' ends' rests') o r → StageLoadParts B S B' (lent_state ends' rests' S.queue S.last) (Refused n) o
-        go (not_loaded m) p = (sym told ∙ p.0, ap (λ (b : Lent). b.job) p.1, ap (λ (b : Lent). lent_state b.ends b.rests S.queue S.last) p.1)
+        go : (o : Loaded) → LoadParts below (lent B' ends' rests') o r → StageLoadParts B S B' (lent_state ends' rests' S.queue S.last) (Err n) o
+        go (not_loaded m) p = (ap numbered (sym told) ∙ p.0, ap (λ (b : Lent). b.job) p.1, ap (λ (b : Lent). lent_state b.ends b.rests S.queue S.last) p.1)
         go (loaded j) p = absurd (subst (λ (b : Bool). T b) (ap is_loaded (sym p.0 ∙ told)) tt)
 
     filled_state :
@@ -275,23 +277,23 @@ module _ (bytes : List ℕ) (B : JobSlices) (S : StateBuffers) where
         last_is : last' ≡ last_words (fresh_state j) ++ drop 512 S.last
         last_is = pl ∙ sets-eq (replicate 512 0) S.last 0 (omega (arith, roomy', length-replicate {A = ℕ} 512 0)) ∙ ap (λ (l : List ℕ). l ++ drop 512 S.last) (sym (no_last j))
 
-    count_is : (h : JobHeader) (j : Job) → Is h ≡ Is (header_of j) → h.virt_regs ≡ length j.virt_regs
+    count_is : (h : JobHeader) (j : Job) → ◌≡◌ {A = Result JobHeader Refusal} (Ok h) (Ok (header_of j)) → h.virt_regs ≡ length j.virt_regs
     unfolding header_of
     count_is h j e = ap count_of e
 
     pub accepted_load :
         Bytes bytes
         → (h : JobHeader)
-        → r ≡ Is h
+        → r ≡ Ok h
         → (queue' last' : List ℕ)
         → queue' ≡ filled (first_word h.virt_regs (drop 1041 B'.j16) (drop 1024 B'.j32)) S.queue
         → last' ≡ sets S.last 0 (replicate (512 - 0) 0)
-        → StageLoadDone bytes B S B' (lent_state ends' rests' queue' last') (Is h)
+        → StageLoadDone bytes B S B' (lent_state ends' rests' queue' last') (Ok h)
     accepted_load are_bytes h told queue' last' pq pl =
-        record { parts = subst (StageLoadParts B S B' (lent_state ends' rests' queue' last') (Is h)) loads_same (go _ refl d.parts) }
+        record { parts = subst (StageLoadParts B S B' (lent_state ends' rests' queue' last') (Ok h)) loads_same (go _ refl d.parts) }
       where
-        go : (o : Loaded) → load_with load_limits (loading.sizes_of below) bytes ≡ o → LoadParts below (lent B' ends' rests') o r → StageLoadParts B S B' (lent_state ends' rests' queue' last') (Is h) o
-        go (not_loaded m) q p = absurd (subst (λ (b : Bool). T (not b)) (ap is_loaded (sym p.0 ∙ told)) tt)
+        go : (o : Loaded) → load_with load_limits (loading.sizes_of below) bytes ≡ o → LoadParts below (lent B' ends' rests') o r → StageLoadParts B S B' (lent_state ends' rests' queue' last') (Ok h) o
+        go (not_loaded m) q p = absurd (subst (λ (b : Bool). T (not b)) (ap is_loaded (sym p.0 ∙ ap numbered told)) tt)
         go (loaded j) q p = (
           sym told ∙ p.0,
           ap (λ (b : Lent). b.job) p.1,
@@ -312,12 +314,12 @@ laid_state j S = record { moves = record { table = record { ends_are = refl; res
 pub just_loaded :
     (bytes : List ℕ) (B : JobSlices) (S : StateBuffers) (B' : JobSlices) (S' : StateBuffers) (h : JobHeader)
     → Bytes bytes
-    → StageLoadDone bytes B S B' S' (Is h)
+    → StageLoadDone bytes B S B' S' (Ok h)
     → (j : Job) × JustLoaded j h B' S' first_records
 unfolding later_state later
 just_loaded bytes B S B' S' h are_bytes d = go (load (sizes_of B S) bytes) refl d.parts
   where
-    go : (o : Loaded) → load (sizes_of B S) bytes ≡ o → StageLoadParts B S B' S' (Is h) o → (j : Job) × JustLoaded j h B' S' first_records
+    go : (o : Loaded) → load (sizes_of B S) bytes ≡ o → StageLoadParts B S B' S' (Ok h) o → (j : Job) × JustLoaded j h B' S' first_records
     go (not_loaded n) q p = absurd (subst (λ (b : Bool). T b) (ap is_loaded p.0) tt)
     go (loaded j) q p = (
       j,

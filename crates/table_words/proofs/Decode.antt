@@ -12,17 +12,16 @@ use borrow.Author.Tests.{lt-ltb, le-ltb, ne_eqb}
 use Rattle.reg_matrix.specs.Layout.{greatest, end_word, rest_word, reservation_word, use_word, use_value, reservation_of, entry_of, use_of}
 use Rattle.table_words.specs.Search.{Rises}
 use Rattle.reg_matrix.specs.declared.Entry.{Entry}
-use Rattle.reg_matrix.specs.declared.FixedIndex.{FixedIndex}
-use Rattle.reg_matrix.specs.declared.FixedIndex.TheVariants.{At, NoIndex}
+use Rattle.std.specs.Prelude.{Option, Some, None}
 use Rattle.reg_matrix.specs.declared.Reservation.{Reservation}
 use Rattle.reg_matrix.specs.declared.Reservation.TheVariants.{Held, FixedUse, FixedDef}
 use Rattle.reg_matrix.proofs.Members.{◌∈◌}
 
 -- ---- numbers that fit their fields
 
-abbrev pub SmallIndex : FixedIndex → Type 0
-SmallIndex NoIndex = Unit {0}
-SmallIndex (At i) = i + 1 < 2 ^ 16
+abbrev pub SmallIndex : Option ℕ → Type 0
+SmallIndex None = Unit {0}
+SmallIndex (Some i) = i + 1 < 2 ^ 16
 
 abbrev pub SmallReservation : Reservation → Type 0
 SmallReservation FixedDef = Unit {0}
@@ -48,8 +47,8 @@ pub record SmallUse (e : Entry) : Type 0 where
 pub fits_word : (r : Reservation) → SmallReservation r → reservation_word r < 2 ^ 32
 fits_word FixedDef h = omega arith
 fits_word (FixedUse x) h = omega arith
-fits_word (Held v NoIndex) h = omega arith
-fits_word (Held v (At i)) h = omega arith
+fits_word (Held v None) h = omega arith
+fits_word (Held v (Some i)) h = omega arith
 
 reservation_back : (r : Reservation) → SmallReservation r → reservation_of (reservation_word r) ≡ r
 unfolding reservation_of
@@ -57,12 +56,12 @@ reservation_back FixedDef h = refl
 reservation_back (FixedUse x) h =
     let a : (x + 1 - 1) % 2 ^ 16 ≡ x = omega arith in
     rw (ne_eqb (x + 1) 0 (λ q. omega arith), lt-ltb (x + 1) (2 ^ 17) (omega arith), a)
-reservation_back (Held v NoIndex) h =
+reservation_back (Held v None) h =
     let w = (v + 2) * 2 ^ 16 + 0 in
     let a : w / 2 ^ 16 - 2 ≡ v = omega arith in
     let b : w % 2 ^ 16 ≡ 0 = omega arith in
     rw (ne_eqb w 0 (λ q. omega arith), le-ltb w (2 ^ 17) (omega arith), a, b)
-reservation_back (Held v (At i)) h =
+reservation_back (Held v (Some i)) h =
     let w = (v + 2) * 2 ^ 16 + (i + 1) in
     let a : w / 2 ^ 16 - 2 ≡ v = omega arith in
     let b : w % 2 ^ 16 ≡ i + 1 = omega arith in

@@ -14,61 +14,17 @@ use lib.ListN.{length, get_or}
 use borrow.Author.Tests.{lt-leb, le-ltb, ne_eqb, leb-false, ltb-false}
 use Rattle.reg_matrix.specs.Lists.{is_nil}
 use Rattle.reg_matrix.specs.Refusals.{refusal, or_then, bad_slot, range_refusal, ranges_refusal}
-use Rattle.table_words.specs.Segments.{segment_at, segments_from, segments_in, refusal_number}
+use Rattle.table_words.specs.Segments.{segment_at, segments_from, segments_in}
 use Rattle.reg_matrix.specs.declared.ValueSegment.{ValueSegment}
 use Rattle.reg_matrix.proofs.Members.{◌∈◌}
 use Rattle.reg_matrix.proofs.Whole.{Rising}
 
-pub or_none : (b : Bool) → b || false ≡ b
-or_none true = refl
-or_none false = refl
-
 -- ---- a range
 
--- a refusal's number is not 0
 chosen : Bool → Bool → Bool → Option ℕ
 chosen a b c = cond a (some 5) (cond b (some 6) (cond c (some 7) none))
 
-none_of_zero : (a b c : Bool) → refusal_number (chosen a b c) ≡ 0 → chosen a b c ≡ none
-unfolding chosen
-none_of_zero true b c q = absurd (omega arith)
-none_of_zero false true c q = absurd (omega arith)
-none_of_zero false false true q = absurd (omega arith)
-none_of_zero false false false q = refl
-
-pub range_none : (past : ℕ) (s : ValueSegment) → refusal_number (range_refusal past s) ≡ 0 → range_refusal past s ≡ none
-unfolding range_refusal refusal chosen
-range_none past s q = none_of_zero (leb s.to s.from) (bad_slot s.from || bad_slot s.to) (ltb s.from past) q
-
--- the range at a place, by the numbers that were read there
-pub range_told :
-    (fs ts : List ℕ) (past i f t r : ℕ)
-    → r ≡ refusal_number (range_refusal past (record { from = f; to = t; value = 0 }))
-    → f ≡ get_or fs i 0
-    → t ≡ get_or ts i 0
-    → r ≡ refusal_number (range_refusal past (segment_at fs ts [] i))
-unfolding range_refusal
-range_told fs ts past i f t r q a b = q ∙ rw (a, b)
-
-or_else_number : (o r : Option ℕ) → (refusal_number o ≡ 0 → ⊥) → refusal_number (or_then o r) ≡ refusal_number o
-or_else_number none r h = absurd (h refl)
-or_else_number (some n) r h = refl
-
 -- ---- ranges one after another
-
-pub ranges_none : (past : ℕ) (ss : List ValueSegment) → refusal_number (ranges_refusal past ss) ≡ 0 → ranges_refusal past ss ≡ none
-unfolding ranges_refusal
-ranges_none past [] q = refl
-ranges_none past (s ∷ ss) q = go (range_refusal past s) (range_none past s) (λ p. ranges_none s.to ss p) q
-  where
-    go :
-        (o : Option ℕ)
-        → (refusal_number o ≡ 0 → o ≡ none)
-        → (refusal_number (ranges_refusal s.to ss) ≡ 0 → ranges_refusal s.to ss ≡ none)
-        → refusal_number (or_then o (ranges_refusal s.to ss)) ≡ 0
-        → or_then o (ranges_refusal s.to ss) ≡ none
-    go none h ih p = ih p
-    go (some n) h ih p = h p
 
 -- ranges that no test refuses are nonempty and rise
 
@@ -169,19 +125,19 @@ module _ (fs ts vs : List ℕ) where
       rw (e, add-one i)
 
   -- the loop: a range that refuses, one that does not, and the end
-  pub ranges_stop :
-      (past i : ℕ)
-      → i < length fs
-      → (refusal_number (range_refusal past (segment_at fs ts vs i)) ≡ 0 → ⊥)
-      → refusal_number (ranges_refusal past (segments_from fs ts vs i (length fs - i))) ≡ refusal_number (range_refusal past (segment_at fs ts vs i))
-  ranges_stop past i h z = rw (ranges_at past i h) (or_else_number (range_refusal past (segment_at fs ts vs i)) _ z)
+  module _ (past i f t : ℕ) (h : i < length fs) (a : f ≡ get_or fs i 0) (b : t ≡ get_or ts i 0) where
+    pub ranges_stop :
+        (n : ℕ)
+        → some n ≡ range_refusal past (record { from = f; to = t; value = 0 })
+        → some n ≡ ranges_refusal past (segments_from fs ts vs i (length fs - i))
+    unfolding range_refusal
+    ranges_stop n q = rw (ranges_at past i h, ← a, ← b, ← q)
 
-  pub ranges_go :
-      (past i : ℕ)
-      → i < length fs
-      → refusal_number (range_refusal past (segment_at fs ts vs i)) ≡ 0
-      → ranges_refusal past (segments_from fs ts vs i (length fs - i)) ≡ ranges_refusal (get_or ts i 0) (segments_from fs ts vs (i + 1) (length fs - (i + 1)))
-  ranges_go past i h z = rw (ranges_at past i h, range_none past (segment_at fs ts vs i) z)
+    pub ranges_go :
+        none ≡ range_refusal past (record { from = f; to = t; value = 0 })
+        → ranges_refusal past (segments_from fs ts vs i (length fs - i)) ≡ ranges_refusal t (segments_from fs ts vs (i + 1) (length fs - (i + 1)))
+    unfolding range_refusal
+    ranges_go q = rw (ranges_at past i h, ← a, ← b, ← q)
 
   pub ranges_end : (past i : ℕ) → length fs ≤ i → ranges_refusal past (segments_from fs ts vs i (length fs - i)) ≡ none
   unfolding segments_from ranges_refusal

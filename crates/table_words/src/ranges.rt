@@ -1,12 +1,15 @@
 // The tests of a question's buffers and ranges (specs/Refusals.antt).
 ghost use Rattle.std.specs.Prelude.{◌≡◌, [], ◌∷◌};
 ghost use Rattle.reg_matrix.specs.Refusals.{range_refusal, ranges_refusal, short_buffer, bad_slot};
+ghost use Rattle.reg_matrix.specs.Refused.{refusal_in};
 ghost use Rattle.reg_matrix.specs.Questions.{check_limits};
-ghost use Rattle.table_words.specs.Segments.{refusal_number, segments_in, start_refusal};
+ghost use Rattle.table_words.specs.Segments.{segments_in, start_refusal};
 
-use lent::at32;
+use lent::at;
+use reg_matrix::Refusal;
 
 // Whether a buffer lent to a check is shorter than its limit: the segments have as many ends and values as starts.
+#[tactic(auto, unfolding(reg_matrix::specs::Refusals::short_buffer))]
 pub fn short_buffers(
     regs: usize,
     uses: usize,
@@ -18,22 +21,7 @@ pub fn short_buffers(
 ) -> bool
     ensures { result ≡ short_buffer (check_limits froms) (regs ∷ uses ∷ ends ∷ rests ∷ froms ∷ tos ∷ values ∷ []) }
 {
-    if regs < 64 {
-        return true;
-    }
-    if uses < 512 {
-        return true;
-    }
-    if ends < 2560 {
-        return true;
-    }
-    if rests < 2560 {
-        return true;
-    }
-    if tos < froms {
-        return true;
-    }
-    values < froms
+    regs < 64 || uses < 512 || ends < 2560 || rests < 2560 || tos < froms || values < froms
 }
 
 fn bad_slot(point: u32) -> bool
@@ -42,45 +30,39 @@ fn bad_slot(point: u32) -> bool
     point % 4 == 3
 }
 
-// 5, 6 or 7 of a range that may not start before `past`, or 0.
-fn range_refusal(past: u32, from: u32, to: u32) -> u8
-    ensures { result ≡ refusal_number (range_refusal past (record { from = from; to = to; value = 0 })) }
+// 5, 6 or 7 of a range that may not start before `past`.
+#[tactic(auto, unfolding(reg_matrix::specs::Refusals::range_refusal, reg_matrix::specs::Refusals::refusal))]
+fn range_refusal(past: u32, from: u32, to: u32) -> Result<(), Refusal>
+    ensures { refusal_in result ≡ range_refusal past (record { from = from; to = to; value = 0 }) }
 {
     if to <= from {
-        return 5;
+        return Err(Refusal::Empty);
     }
-    if bad_slot(from) {
-        return 6;
-    }
-    if bad_slot(to) {
-        return 6;
+    if bad_slot(from) || bad_slot(to) {
+        return Err(Refusal::BadPoint);
     }
     if from < past {
-        return 7;
+        return Err(Refusal::Unsorted);
     }
-    0
+    Ok(())
 }
 
-// The same of ranges one after another: the first refusal, or 0.
-fn ranges_refusal(froms: &[u32], tos: &[u32]) -> u8
-    ensures { result ≡ refusal_number (ranges_refusal 0 (segments_in froms.now tos.now [])) }
+// The same of ranges one after another: the first refusal.
+fn ranges_refusal(froms: &[u32], tos: &[u32]) -> Result<(), Refusal>
+    ensures { refusal_in result ≡ ranges_refusal 0 (segments_in froms.now tos.now []) }
 {
     let mut past = 0;
-    let mut i = 0;
-    while i < froms.len() {
-        let to = at32(tos, i);
-        let refusal = range_refusal(past, at32(froms, i), to);
-        if refusal != 0 {
-            return refusal;
-        }
+    for (i, from) in froms.iter().enumerate() {
+        let to = at(tos, i);
+        range_refusal(past, *from, to)?;
         past = to;
-        i += 1;
     }
-    0
+    Ok(())
 }
 
-// 15, 8, 5, 6 or 7 of a check, in this order, or 0: whether a buffer is short, how many maps of units are lent and how many of these count, the
+// 15, 8, 5, 6 or 7 of a check, in this order: whether a buffer is short, how many maps of units are lent and how many of these count, the
 // register's number, and the segments' starts and ends.
+#[tactic(auto, unfolding(crate::specs::Segments::start_refusal))]
 pub fn start_refusal(
     short: bool,
     regs: usize,
@@ -88,20 +70,17 @@ pub fn start_refusal(
     reg: usize,
     froms: &[u32],
     tos: &[u32],
-) -> u8
-    ensures { result ≡ refusal_number (start_refusal short regs count reg froms.now tos.now) }
+) -> Result<(), Refusal>
+    ensures { refusal_in result ≡ start_refusal short regs count reg froms.now tos.now }
 {
     if short {
-        return 15;
+        return Err(Refusal::ShortBuffer);
     }
-    if regs <= reg {
-        return 8;
+    if regs <= reg || count <= reg {
+        return Err(Refusal::UnknownNumber);
     }
-    if count <= reg {
-        return 8;
-    }
-    if froms.len() == 0 {
-        return 5;
+    if froms.is_empty() {
+        return Err(Refusal::Empty);
     }
     ranges_refusal(froms, tos)
 }

@@ -2,9 +2,10 @@
 ghost use Rattle.std.specs.Prelude.{◌≡◌, ◌^◌, ◌<◌};
 ghost use Rattle.reg_matrix.specs.Layout.{entry_of, reservation_of, use_of};
 
-use reg_matrix::{Entry, FixedIndex, Reservation};
+use reg_matrix::{Entry, Reservation};
 
 // What an entry's low 32 bits say that it is for.
+#[tactic(auto, unfolding(reg_matrix::specs::Layout::reservation_of))]
 fn reservation_of(w: u64) -> Reservation
     requires { w < 2 ^ 32 }
     ensures { result ≡ reservation_of w }
@@ -18,13 +19,14 @@ fn reservation_of(w: u64) -> Reservation
     let v = (w / 0x1_0000 - 2) as u16;
     let i = w % 0x1_0000;
     if i == 0 {
-        Reservation::Held(v, FixedIndex::NoIndex)
+        Reservation::Held(v, None)
     } else {
-        Reservation::Held(v, FixedIndex::At((i - 1) as u16))
+        Reservation::Held(v, Some((i - 1) as u16))
     }
 }
 
 // The entry that two numbers stand for.
+#[tactic(auto, unfolding(reg_matrix::specs::Layout::entry_of))]
 pub fn entry_of(end: u64, rest: u64) -> Entry
     ensures { result ≡ entry_of end rest }
 {
@@ -37,6 +39,7 @@ pub fn entry_of(end: u64, rest: u64) -> Entry
 }
 
 // The fixed use that a number stands for.
+#[tactic(auto, unfolding(reg_matrix::specs::Layout::use_of))]
 pub fn use_of(w: u64) -> Entry
     ensures { result ≡ use_of w }
 {

@@ -6,7 +6,7 @@ use mathlib.Core.Path.{◌≡◌, refl, sym, ap, ◌∙◌, subst}
 use mathlib.Core.Logic.{◌⊎◌, inl, inr}
 use mathlib.Core.List.{List, [], ◌∷◌, ◌++◌}
 use lib.ListN.{length, get_or, set, take, length-append}
-use lib.Seq.{sets, length-sets, take-suc, take-length}
+use lib.Seq.{sets, length-sets, take-suc}
 use Rattle.lent.proofs.Laws.{sets_append}
 use Rattle.texts.specs.Texts.{Stored}
 
@@ -18,13 +18,6 @@ set_past (x ∷ xs) (suc i) v h = ap (λ (m : List ℕ). x ∷ m) (set_past xs i
 sets_past : (l : List ℕ) (i : ℕ) (vs : List ℕ) → length l ≤ i → sets l i vs ≡ l
 sets_past l i [] h = refl
 sets_past l i (v ∷ vs) h = ap (λ (m : List ℕ). sets m (suc i) vs) (set_past l i v h) ∙ sets_past l (suc i) vs (omega (arith, h))
-
--- one byte
-pub byte_room : (s : List ℕ) (i b : ℕ) → i < length s → Stored s i (b ∷ []) (set s i b) (i + 1)
-byte_room s i b h = record { line = refl; place = inl (omega (arith, h), refl) }
-
-pub byte_full : (s : List ℕ) (i b : ℕ) → length s ≤ i → Stored s i (b ∷ []) s i
-byte_full s i b h = record { line = sym (set_past s i b h); place = inr (omega (arith, h), h) }
 
 -- no text
 pub nothing : (s : List ℕ) (i : ℕ) → Stored s i [] s i
@@ -84,20 +77,9 @@ pub text_more :
     (s : List ℕ) (at : ℕ) (text : List ℕ) (i : ℕ) (t : List ℕ) (j : ℕ) (u : List ℕ) (k : ℕ)
     → i < length text
     → Stored s at (take i text) t j
-    → (b : ℕ) → b ≡ get_or text i 0
-    → Stored t j (b ∷ []) u k
+    → Stored t j (get_or text i 0 ∷ []) u k
     → Stored s at (take (i + 1) text) u k
-text_more s at text i t j u k h p b e q =
+text_more s at text i t j u k h p q =
     let n : i + 1 ≡ suc i = omega arith in
     rw n
-    (named (ap (λ (x : ℕ). take i text ++ (x ∷ [])) e ∙ sym (take-suc text i 0 h)) (then p q))
-
-pub text_end :
-    (s : List ℕ) (at : ℕ) (text : List ℕ) (i : ℕ) (t : List ℕ) (j : ℕ)
-    → i ≤ length text
-    → length text ≤ i
-    → Stored s at (take i text) t j
-    → Stored s at text t j
-text_end s at text i t j h l p =
-    let e : i ≡ length text = omega (arith, h, l) in
-    named (ap (λ (m : ℕ). take m text) e ∙ take-length text) p
+    (named (sym (take-suc text i 0 h)) (then p q))

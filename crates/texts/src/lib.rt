@@ -5,8 +5,6 @@ ghost use Rattle.std.specs.Prelude.{[], ◌∷◌};
 ghost use Rattle.reg_matrix.specs.Lines.{number as decimal, sp};
 ghost use Rattle.texts.specs.Texts.{Stored};
 
-use lent::at8;
-
 // Stores a byte at place `at`, and gives the place after it. A full line stays as it is.
 pub fn byte(line: &mut [u8], at: usize, b: u8) -> usize
     ensures { Stored line.old at (b ∷ []) line.new result }
@@ -23,10 +21,8 @@ pub fn text(line: &mut [u8], at: usize, bytes: &[u8]) -> usize
     ensures { Stored line.old at bytes.now line.new result }
 {
     let mut next = at;
-    let mut i = 0;
-    while i < bytes.len() {
-        next = byte(line, next, at8(bytes, i));
-        i += 1;
+    for b in bytes {
+        next = byte(line, next, *b);
     }
     next
 }

@@ -9,12 +9,13 @@ use lib.Seq.{take_all}
 use borrow.Author.Tests.{ltb-false}
 use Rattle.reg_matrix.specs.Questions.{check_refusal}
 use Rattle.reg_matrix.specs.declared.ValueSegment.{ValueSegment}
-use Rattle.matrix.specs.Walk.{Answered, lent, start_of, entered}
+use Rattle.matrix.specs.Walk.{Answered, lent, entered}
 use Rattle.entries.specs.Moves.{Words}
 use Rattle.matrix.specs.declared.Cursor.{Cursor}
-use Rattle.matrix.specs.declared.Start.{Start}
-use Rattle.matrix.specs.declared.Step.{Step}
-use Rattle.entries.specs.declared.Moved.{Moved}
+use Rattle.std.specs.Prelude.{Option, Result}
+use Rattle.reg_matrix.specs.declared.Refusal.{Refusal}
+use Rattle.reg_matrix.specs.declared.Interference.{Interference}
+use Rattle.reg_matrix.specs.Refused.{or_refused}
 use Rattle.segment_fields.specs.declared.Fields.{Fields}
 use Rattle.segment_fields.specs.Apart.{max_segments, taken_apart, froms_in, tos_in, values_in, froms_of, tos_of, values_of}
 use Rattle.segment_calls.specs.Answers.{unless_long, check_answer, AssignAnswer, EvictAnswer}
@@ -46,7 +47,7 @@ module _ (ys : List ValueSegment) (f : Fields) (e : f ≡ taken_apart ys) where
   all_seen : ltb max_segments (length ys) ≡ false → take max_segments ys ≡ ys
   all_seen q = take_all max_segments ys (ltb-false _ _ q)
 
-  pub next_told : {ends rests uses : List ℕ} {c : Cursor} {r : Step} → Answered (lent ends rests uses (froms_in f) (tos_in f) (values_in f)) c r
+  pub next_told : {ends rests uses : List ℕ} {c : Cursor} {r : Option (Interference × Cursor)} → Answered (lent ends rests uses (froms_in f) (tos_in f) (values_in f)) c r
       → Answered (lent ends rests uses (froms_of (take max_segments ys)) (tos_of (take max_segments ys)) (values_of (take max_segments ys))) c r
   next_told = answered_at froms_told tos_told values_told
 
@@ -55,10 +56,10 @@ module _ (ys : List ValueSegment) (f : Fields) (e : f ≡ taken_apart ys) where
   enter_told ends units full p = p ∙ ap (λ (fs : List ℕ). entered ends fs units full) froms_told ∙ first_start ends units full ys
 
   module _ (regs : List ℕ) (count reg : ℕ) (full : Bool) (ends rests uses : List ℕ) where
-    abbrev Answer : Bool → List ℕ → List ℕ → List ℕ → Start
+    abbrev Answer : Bool → List ℕ → List ℕ → List ℕ → Result Cursor ℕ
     Answer b fs ts vs = check_answer b regs count reg full ends rests uses fs ts vs
 
-    pub check_told : {r : Start} → r ≡ Answer f.long (froms_in f) (tos_in f) (values_in f)
+    pub check_told : {r : Result Cursor ℕ} → r ≡ Answer f.long (froms_in f) (tos_in f) (values_in f)
         → r ≡ Answer (ltb max_segments (length ys)) (froms_of ys) (tos_of ys) (values_of ys)
     unfolding check_answer
     check_told p = p ∙ go (ltb max_segments (length ys)) refl
@@ -73,7 +74,7 @@ module _ (ys : List ValueSegment) (f : Fields) (e : f ≡ taken_apart ys) where
             ∙ ap (λ (ts : List ℕ). Answer (ltb max_segments (length ys)) (froms_of ys) ts (values_in f)) (tos_told ∙ ap tos_of (all_seen q))
             ∙ ap (λ (vs : List ℕ). Answer (ltb max_segments (length ys)) (froms_of ys) (tos_of ys) vs) (values_told ∙ ap values_of (all_seen q))
 
-  pub assign_told : {v m : ℕ} {uses : List ℕ} {w w' : Words} {r : Moved} → AssignAnswer f.long v m uses (froms_in f) (tos_in f) w w' r
+  pub assign_told : {v m : ℕ} {uses : List ℕ} {w w' : Words} {r : Result (Unit {0}) Refusal} → AssignAnswer f.long v m uses (froms_in f) (tos_in f) w w' r
       → AssignAnswer (ltb max_segments (length ys)) v m uses (froms_of ys) (tos_of ys) w w' r
   assign_told {v} {m} {uses} {w} {w'} {r} p =
       go (ltb max_segments (length ys)) refl (subst (λ (b : Bool). AssignAnswer b v m uses (froms_in f) (tos_in f) w w' r) long_told p)
@@ -88,7 +89,7 @@ module _ (ys : List ValueSegment) (f : Fields) (e : f ≡ taken_apart ys) where
           subst (λ (ts : List ℕ). AssignAnswer (ltb max_segments (length ys)) v m uses (froms_of ys) ts w w' r) (tos_told ∙ ap tos_of (all_seen q))
           (subst (λ (fs : List ℕ). AssignAnswer (ltb max_segments (length ys)) v m uses fs (tos_in f) w w' r) (froms_told ∙ ap froms_of (all_seen q)) a)
 
-  pub evict_told : {v m : ℕ} {uses : List ℕ} {w w' : Words} {r : Moved} → EvictAnswer f.long v m uses (tos_in f) w w' r
+  pub evict_told : {v m : ℕ} {uses : List ℕ} {w w' : Words} {r : Result (Unit {0}) Refusal} → EvictAnswer f.long v m uses (tos_in f) w w' r
       → EvictAnswer (ltb max_segments (length ys)) v m uses (tos_of ys) w w' r
   evict_told {v} {m} {uses} {w} {w'} {r} p =
       go (ltb max_segments (length ys)) refl (subst (λ (b : Bool). EvictAnswer b v m uses (tos_in f) w w' r) long_told p)
@@ -104,7 +105,7 @@ module _ (ys : List ValueSegment) (f : Fields) (e : f ≡ taken_apart ys) where
 
 pub check_of_structs : (long : Bool) (regs : List ℕ) (count reg : ℕ) (full : Bool) (ends rests uses : List ℕ) (ys : List ValueSegment)
     → check_answer long regs count reg full ends rests uses (froms_of ys) (tos_of ys) (values_of ys)
-    ≡ start_of
+    ≡ or_refused
     (unless_long long
     (check_refusal (length regs ∷ length uses ∷ length ends ∷ length rests ∷ length ys ∷ length ys ∷ length ys ∷ []) (take count regs) reg ys))
     (entered ends (froms_of ys) (get_or regs reg 0) full)

@@ -4,8 +4,7 @@ ghost use Rattle.entries.specs.Moves.{words};
 ghost use Rattle.segment_fields.specs.Apart.{max_segments, froms_of, tos_of};
 ghost use Rattle.segment_calls.specs.Answers.{AssignAnswer, EvictAnswer};
 
-use entries::Moved;
-use reg_matrix::ValueSegment;
+use reg_matrix::{Refusal, ValueSegment};
 use segment_calls::{assign_fields, evict_fields};
 use segment_fields::taking::take_apart;
 
@@ -20,7 +19,7 @@ pub fn assign(
     uses: &[u64],
     v: u16,
     map: u64,
-) -> Moved
+) -> Result<(), Refusal>
     ensures { AssignAnswer (ltb max_segments (length segments.now)) v map uses.now (froms_of segments.now) (tos_of segments.now) (words ends.old rests.old) (words ends.new rests.new) result }
 {
     assign_fields(take_apart(segments), ends, rests, uses, v, map)
@@ -36,7 +35,7 @@ pub fn evict(
     uses: &[u64],
     v: u16,
     map: u64,
-) -> Moved
+) -> Result<(), Refusal>
     ensures { EvictAnswer (ltb max_segments (length segments.now)) v map uses.now (tos_of segments.now) (words ends.old rests.old) (words ends.new rests.new) result }
 {
     evict_fields(take_apart(segments), ends, rests, uses, v, map)

@@ -1,12 +1,9 @@
 -- The spare question on lent numbers, in the shape of the code: u is a unit. The law free_stands ties it to Questions.antt. Assumes nothing.
-use Rattle.std.specs.Prelude.{ℕ, ◌+◌, ◌*◌, ◌/◌, ◌^◌, Bool, true, false, not, ◌&&◌, ltb, leb, eqb, get_or}
-use Rattle.std.proofs.Math.Option.{Option, none, some}
+use Rattle.std.specs.Prelude.{ℕ, ◌+◌, ◌*◌, ◌/◌, ◌^◌, Bool, not, ◌&&◌, ltb, leb, eqb, get_or}
 use Rattle.reg_matrix.specs.Layout.{max_entries}
 use Rattle.reg_matrix.specs.declared.ValueSegment.{ValueSegment}
 use Rattle.table_words.specs.Search.{place_of}
 use Rattle.entries.specs.Moves.{Words}
-use Rattle.unit_free.specs.declared.UnitFree.{UnitFree}
-use Rattle.unit_free.specs.declared.UnitFree.TheVariants.{Free, Taken, NotAsked}
 
 -- the first entry of the unit that ends past `from`, if there is one, starts past `to`
 unfoldable pub free_at : ℕ → ℕ → ℕ → Words → Bool
@@ -16,8 +13,3 @@ free_at u from to w =
 
 abbrev pub range : ℕ → ℕ → ValueSegment
 range from to = record { from = from; to = to; value = 0 }
-
-abbrev pub spare_answer : Option ℕ → Bool → UnitFree
-spare_answer (some n) b = NotAsked n
-spare_answer none true = Free
-spare_answer none false = Taken

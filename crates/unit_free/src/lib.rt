@@ -3,60 +3,48 @@
 
 ghost use Rattle.std.specs.Prelude.{◌≡◌, [], ◌∷◌, length};
 ghost use Rattle.reg_matrix.specs.Questions.{spare_refusal};
+ghost use Rattle.reg_matrix.specs.Refused.{numbered, or_refused};
 ghost use Rattle.entries.specs.Moves.{words};
-ghost use Rattle.unit_free.specs.Spare.{free_at, range, spare_answer};
+ghost use Rattle.unit_free.specs.Spare.{free_at, range};
 
 use lent::at;
+use reg_matrix::Refusal;
 use table_words::search::find;
 
-// Whether a unit is spare over a range: free, taken, or the number of a refusal.
-#[derive(Clone, Copy)]
-pub enum UnitFree {
-    Free,
-    Taken,
-    NotAsked(u8),
-}
-
 // Whether the unit's first entry that ends past `from`, if there is one, starts past `to`.
+#[tactic(auto, unfolding(crate::specs::Spare::free_at))]
 fn free_at(ends: &[u64], rests: &[u64], unit: u8, from: u32, to: u32) -> bool
     ensures { result ≡ free_at unit from to (words ends.now rests.now) }
 {
     let place = find(ends, unit as u64 * 0x1_0000_0000 + from as u64 + 1);
-    if place < 2560 {
-        if at(ends, place) / 0x1_0000_0000 == unit as u64 {
-            let start = at(rests, place) / 0x1_0000_0000;
-            return !(start <= to as u64);
-        }
-    }
-    true
+    !(place < 2560
+        && at(ends, place) / 0x1_0000_0000 == unit as u64
+        && at(rests, place) / 0x1_0000_0000 <= to as u64)
 }
 
 // Whether the unit is spare from `from` to `to`, the end included, as in the source: it is unless the first entry ending past `from` starts
 // at or before `to`. Refused with 15, 8, 5 or 6, in this order.
-pub fn is_unit_free(ends: &[u64], rests: &[u64], unit: u8, from: u32, to: u32) -> UnitFree
-    ensures { result ≡ spare_answer (spare_refusal (length ends.now ∷ length rests.now ∷ []) unit (range from to)) (free_at unit from to (words ends.now rests.now)) }
+#[tactic(auto, unfolding(reg_matrix::specs::Questions::spare_refusal, reg_matrix::specs::Refusals::refusal, reg_matrix::specs::Refusals::short_buffer, reg_matrix::specs::Refusals::range_refusal))]
+pub fn is_unit_free(
+    ends: &[u64],
+    rests: &[u64],
+    unit: u8,
+    from: u32,
+    to: u32,
+) -> Result<bool, Refusal>
+    ensures { numbered result ≡ or_refused (spare_refusal (length ends.now ∷ length rests.now ∷ []) unit (range from to)) (free_at unit from to (words ends.now rests.now)) }
 {
-    if ends.len() < 2560 {
-        return UnitFree::NotAsked(15);
-    }
-    if rests.len() < 2560 {
-        return UnitFree::NotAsked(15);
+    if ends.len() < 2560 || rests.len() < 2560 {
+        return Err(Refusal::ShortBuffer);
     }
     if 64 <= unit {
-        return UnitFree::NotAsked(8);
+        return Err(Refusal::UnknownNumber);
     }
     if to <= from {
-        return UnitFree::NotAsked(5);
+        return Err(Refusal::Empty);
     }
-    if from % 4 == 3 {
-        return UnitFree::NotAsked(6);
+    if from % 4 == 3 || to % 4 == 3 {
+        return Err(Refusal::BadPoint);
     }
-    if to % 4 == 3 {
-        return UnitFree::NotAsked(6);
-    }
-    if free_at(ends, rests, unit, from, to) {
-        UnitFree::Free
-    } else {
-        UnitFree::Taken
-    }
+    Ok(free_at(ends, rests, unit, from, to))
 }

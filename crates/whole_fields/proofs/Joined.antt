@@ -11,8 +11,10 @@ use Rattle.reg_matrix.specs.Lists.{bit}
 use Rattle.reg_matrix.specs.declared.Entry.{Entry}
 use Rattle.reg_matrix.specs.declared.ValueSegment.{ValueSegment}
 use Rattle.job.specs.declared.JobHeader.{JobHeader}
-use Rattle.job.specs.declared.Probe.{Probe}
-use Rattle.job.specs.declared.Probe.TheVariants.{Over, NoProbe}
+use Rattle.std.specs.Prelude.{Option as Maybe, Some, None, Result, Ok, Err}
+use Rattle.reg_matrix.specs.Refused.{number_of}
+use Rattle.reg_matrix.specs.declared.Refusal.{Refusal}
+use Rattle.whole_fields.specs.declared.TableSizes.{TableSizes}
 use Rattle.job.specs.Model.{Job, VirtReg}
 use Rattle.job.specs.Parser.{Parser, Parsed, refused, parsed, and_then, done, if_bit, little}
 use Rattle.job.specs.Load.{register, class, reservation, virt_reg_after, job_fields}
@@ -22,10 +24,6 @@ use Rattle.fields.specs.Virt.{VirtsAt, TableOut}
 use Rattle.whole_fields.specs.Probe.{probe_field, range_of}
 use Rattle.whole_fields.specs.Whole.{rest_of, last_of, FirstSizes, FirstOut, LastOut, JobAt, JobOut}
 use Rattle.whole_fields.specs.declared.FirstTables.{FirstTables}
-use Rattle.whole_fields.specs.declared.FirstRead.TheVariants.{Is as IsFirst}
-use Rattle.fields.specs.declared.virt.VirtTable.TheVariants.{Is as IsTable}
-use Rattle.whole_fields.specs.declared.JobRead.{JobRead}
-use Rattle.whole_fields.specs.declared.JobRead.TheVariants.{Is, Refused}
 
 module _ (l : List ℕ) {l₁ l₂ l₃ l₄ : List ℕ} {m r : ℕ} {rs : List ℕ} {cs : List (List ℕ)} {es : List Entry} where
   -- what is left after the first tables
@@ -40,9 +38,9 @@ module _ (l : List ℕ) {l₁ l₂ l₃ l₄ : List ℕ} {m r : ℕ} {rs : List 
   unfolding job_fields rest_of
   first_is e t e₁ n e₂ e₃ = rw (e, t, e₁, n, e₂, e₃)
 
-probe_back : (p : Probe) → probe_of (range_of p) ≡ p
-probe_back NoProbe = refl
-probe_back (Over a b) = refl
+probe_back : (p : Maybe (ℕ × ℕ)) → probe_of (range_of p) ≡ p
+probe_back None = refl
+probe_back (Some (a, b)) = refl
 
 abbrev pub job_of : List ℕ → List (List ℕ) → List Entry → List VirtReg → Option ValueSegment → ℕ → Job
 job_of rs cs es vs p b = record { regs = rs; classes = cs; fixed = es; virt_regs = vs; probe = p; budget = b }
@@ -77,7 +75,7 @@ module _ {t : FirstTables} {rs : List ℕ} {cs : List (List ℕ)} {es : List Ent
 
     -- the whole answers as its last fields do
     pub job_out :
-        (s : List ℕ) (at : ℕ) {v g : ℕ} {p : Parsed Job} (r : JobRead) {stored : Job → Type 0}
+        (s : List ℕ) (at : ℕ) {v g : ℕ} {p : Parsed Job} (r : Result (JobHeader × TableSizes × ℕ) Refusal) {stored : Job → Type 0}
         → l₁ ≡ drop at s
         → p ≡ rest_of t.map rs cs es l
         → length vs ≡ v
@@ -85,8 +83,8 @@ module _ {t : FirstTables} {rs : List ℕ} {cs : List (List ℕ)} {es : List Ent
         → ((q : Option ValueSegment) (b : ℕ) → stored (job_of rs cs es vs q b))
         → LastOut s at t v g r
         → JobOut s p r stored
-    job_out s at (Refused n) i w a c k o = record { parts = w ∙ rest_last ∙ rw (i, o) }
-    job_out s at (Is d y next) i w a c k o = record {
+    job_out s at (Err n) i w a c k o = record { parts = w ∙ rest_last ∙ rw (i, o) }
+    job_out s at (Ok (d, y, next)) i w a c k o = record {
       parts = (
         job_of rs cs es vs (range_of d.probe) d.budget,
         w ∙ rest_last ∙ rw (i, o.0),
@@ -98,15 +96,15 @@ module _ {t : FirstTables} {rs : List ℕ} {cs : List (List ℕ)} {es : List Ent
 
 -- ---- from what the first tables and the virtual registers answered
 
-module _ (s : List ℕ) (at : ℕ) {p : Parsed Job} {t : FirstTables} {rs : List ℕ → Type 0} {cs : List (List ℕ) → Type 0} {es : List Entry → Type 0} (w : FirstOut s p (IsFirst t at) rs cs es) where
-  pub virts_refused : {n : ℕ} {stored : Job → Type 0} → table_of (bit 3 t.map) 2 512 (virt_reg_after t.regs t.classes) (drop at s) ≡ refused n → JobOut s p (Refused n) stored
+module _ (s : List ℕ) (at : ℕ) {p : Parsed Job} {t : FirstTables} {rs : List ℕ → Type 0} {cs : List (List ℕ) → Type 0} {es : List Entry → Type 0} (w : FirstOut s p (Ok (t, at)) rs cs es) where
+  pub virts_refused : {e : Refusal} {stored : Job → Type 0} → table_of (bit 3 t.map) 2 512 (virt_reg_after t.regs t.classes) (drop at s) ≡ refused (number_of e) → JobOut s p (Err e) stored
   virts_refused e = record { parts = w.3 ∙ virts_refuse w.4 (drop at s) e }
 
 pub all_read :
     (s : List ℕ) (at : ℕ) {p : Parsed Job} {t : FirstTables} {es : List Entry → Type 0} (B B' : JobSlices) {h b : List ℕ}
-    → FirstOut s p (IsFirst t at) (λ rs. Stored (λ x. x) B.j64 0 rs B'.j64) (ClassesAt B.j16 B.j8 h b) es
-    → (next : ℕ) {v n g : ℕ} (r : JobRead)
-    → TableOut s (table_of (bit 3 t.map) 2 512 (virt_reg_after t.regs t.classes) (drop at s)) (IsTable v n g next)
+    → FirstOut s p (Ok (t, at)) (λ rs. Stored (λ x. x) B.j64 0 rs B'.j64) (ClassesAt B.j16 B.j8 h b) es
+    → (next : ℕ) {v n g : ℕ} (r : Result (JobHeader × TableSizes × ℕ) Refusal)
+    → TableOut s (table_of (bit 3 t.map) 2 512 (virt_reg_after t.regs t.classes) (drop at s)) (Ok (v, n, g, next))
     (VirtsAt B.j32 h b B.jf B'.j32 B'.j16 B'.j8 B'.jf)
     → LastOut s next t v g r
     → JobOut s p r (JobAt B B' es)

@@ -1,16 +1,15 @@
 -- What reading all fields of a job promises: the job of Load.antt, its header and sizes, and every table stored. Assumes nothing.
-use Rattle.std.specs.Prelude.{ℕ, ◌≤◌, ◌≡◌, List, drop, length}
+use Rattle.std.specs.Prelude.{ℕ, ◌≤◌, ◌≡◌, List, drop, length, Result, Ok, Err}
 use Rattle.std.proofs.Math.Option.{Option}
 use Rattle.std.proofs.lemmas.List.Edits.{sets}
 use Rattle.whole_fields.specs.declared.TableSizes.{TableSizes}
-use Rattle.whole_fields.specs.declared.JobRead.{JobRead}
-use Rattle.whole_fields.specs.declared.JobRead.TheVariants.{Is, Refused}
 use Rattle.whole_fields.specs.declared.FirstTables.{FirstTables}
-use Rattle.whole_fields.specs.declared.FirstRead.{FirstRead}
-use Rattle.whole_fields.specs.declared.FirstRead.TheVariants.{Is as IsFirst, Refused as NoFirst}
 use Rattle.reg_matrix.specs.Lists.{bit}
+use Rattle.reg_matrix.specs.Refused.{number_of}
+use Rattle.reg_matrix.specs.declared.Refusal.{Refusal}
 use Rattle.reg_matrix.specs.declared.Entry.{Entry}
 use Rattle.reg_matrix.specs.declared.ValueSegment.{ValueSegment}
+use Rattle.job.specs.declared.JobHeader.{JobHeader}
 use Rattle.job.specs.Model.{Job}
 use Rattle.job.specs.Parser.{Parser, Parsed, refused, parsed, ◌>>=◌, done, if_bit, little}
 use Rattle.job.specs.Load.{virt_reg_after}
@@ -32,12 +31,12 @@ pub record SizesOf (z : TableSizes) (j : Job) : Type 0 where
   pub fixed : length j.fixed ≡ z.fixed
   pub segments : length (segments_of_all j.virt_regs) ≡ z.segments
 
-abbrev JobParts : List ℕ → Parsed Job → JobRead → (Job → Type 0) → Type 0
-JobParts s p (Refused n) stored = p ≡ refused n
-JobParts s p (Is h z at) stored = (j : Job) × (p ≡ parsed j (drop at s)) × (h ≡ header_of j) × SizesOf z j × stored j
+abbrev JobParts : List ℕ → Parsed Job → Result (JobHeader × TableSizes × ℕ) Refusal → (Job → Type 0) → Type 0
+JobParts s p (Err r) stored = p ≡ refused (number_of r)
+JobParts s p (Ok (h, z, at)) stored = (j : Job) × (p ≡ parsed j (drop at s)) × (h ≡ header_of j) × SizesOf z j × stored j
 
 -- where the parser answers p: the same refusal, or the job's header, its sizes, a position, and what is stored
-pub record JobOut (s : List ℕ) (p : Parsed Job) (r : JobRead) (stored : Job → Type 0) : Type 0 where
+pub record JobOut (s : List ℕ) (p : Parsed Job) (r : Result (JobHeader × TableSizes × ℕ) Refusal) (stored : Job → Type 0) : Type 0 where
   pub parts : JobParts s p r stored
 
 -- ---- the first tables
@@ -56,9 +55,9 @@ pub record FirstSizes (t : FirstTables) (rs : List ℕ) (cs : List (List ℕ)) (
   pub few_class_regs : length (all_members cs) ≤ 1024
   pub fixed : length es ≡ t.fixed
 
-abbrev pub FirstOut : List ℕ → Parsed Job → FirstRead → (List ℕ → Type 0) → (List (List ℕ) → Type 0) → (List Entry → Type 0) → Type 0
-FirstOut s p (NoFirst n) regs classes fixed = p ≡ refused n
-FirstOut s p (IsFirst t at) regs classes fixed =
+abbrev pub FirstOut : List ℕ → Parsed Job → Result (FirstTables × ℕ) Refusal → (List ℕ → Type 0) → (List (List ℕ) → Type 0) → (List Entry → Type 0) → Type 0
+FirstOut s p (Err r) regs classes fixed = p ≡ refused (number_of r)
+FirstOut s p (Ok (t, at)) regs classes fixed =
     (rs : List ℕ) × (cs : List (List ℕ)) × (es : List Entry) × (p ≡ rest_of t.map rs cs es (drop at s)) × FirstSizes t rs cs es × regs rs × classes cs × fixed es
 
 -- ---- the last fields
@@ -70,9 +69,9 @@ last_of m = do
   b ← if_bit (bit 5 m) 100_000 (little 4)
   done (p, b)
 
-abbrev pub LastOut : List ℕ → ℕ → FirstTables → ℕ → ℕ → JobRead → Type 0
-LastOut s at t v g (Refused n) = last_of t.map (drop at s) ≡ refused n
-LastOut s at t v g (Is d z next) =
+abbrev pub LastOut : List ℕ → ℕ → FirstTables → ℕ → ℕ → Result (JobHeader × TableSizes × ℕ) Refusal → Type 0
+LastOut s at t v g (Err r) = last_of t.map (drop at s) ≡ refused (number_of r)
+LastOut s at t v g (Ok (d, z, next)) =
     (last_of t.map (drop at s) ≡ parsed (range_of d.probe, d.budget) (drop next s))
     × (d ≡ record { regs = t.regs; classes = t.classes; virt_regs = v; probe = d.probe; budget = d.budget })
     × (z ≡ record { fixed = t.fixed; segments = g })

@@ -1,14 +1,11 @@
--- What other crates pass by value, in lent words and in numbers: a job's header, how a run ended, a place in the sheet, how a record stands.
+-- What other crates pass by value, in lent words and in numbers: a job's header, a place in the sheet, how a record stands.
 -- Assumes nothing.
 use Rattle.std.specs.Prelude.{ℕ, ◌+◌, ◌-◌, ◌%◌, ◌^◌, List, [], ◌∷◌, ◌++◌, Bool, cond, ◌||◌, eqb, ltb, length, get_or}
 use Rattle.job.specs.declared.JobHeader.{JobHeader}
-use Rattle.job.specs.declared.Probe.{Probe}
-use Rattle.job.specs.declared.Probe.TheVariants.{Over, NoProbe}
+use Rattle.std.specs.Prelude.{Option, Some, None}
 use Rattle.reg_matrix.specs.Layout.{max_entries, greatest}
 use Rattle.allocator.specs.declared.Assignment.{Assignment}
 use Rattle.allocator.specs.declared.Assignment.TheVariants.{Assigned, Unassigned, Dead}
-use Rattle.allocator.specs.declared.Ending.{Ending}
-use Rattle.allocator.specs.declared.Ending.TheVariants.{Done, Spent, TooMany}
 use Rattle.listing.specs.declared.Place.{Place}
 use Rattle.listing.specs.declared.Place.TheVariants.{Head, VirtReg, Entry, End}
 
@@ -19,17 +16,17 @@ abbrev pub header_limit : ℕ
 header_limit = 8
 
 -- layout: whether there is a probe range, and its points
-abbrev pub probe_words : Probe → List ℕ
-probe_words NoProbe = 0 ∷ 0 ∷ 0 ∷ []
-probe_words (Over from to) = 1 ∷ from ∷ to ∷ []
+abbrev pub probe_words : Option (ℕ × ℕ) → List ℕ
+probe_words None = 0 ∷ 0 ∷ 0 ∷ []
+probe_words (Some (from, to)) = 1 ∷ from ∷ to ∷ []
 
 -- layout: registers, classes, virtual registers, budget, the probe range; the last word is 0
 unfoldable pub header_words : JobHeader → List ℕ
 header_words h = h.regs ∷ h.classes ∷ h.virt_regs ∷ h.budget ∷ (probe_words h.probe ++ (0 ∷ []))
 
 -- layout: read back, from any words: of each the low bits that its field has room for
-unfoldable pub probe_in : ℕ → ℕ → ℕ → Probe
-probe_in has from to = cond (eqb has 0) NoProbe (Over (from % 2 ^ 32) (to % 2 ^ 32))
+unfoldable pub probe_in : ℕ → ℕ → ℕ → Option (ℕ × ℕ)
+probe_in has from to = cond (eqb has 0) None (Some (from % 2 ^ 32, to % 2 ^ 32))
 
 unfoldable pub header_in : List ℕ → JobHeader
 header_in ws =
@@ -52,10 +49,6 @@ abbrev pub words_short : List ℕ → List ℕ → Bool
 words_short head ws = ltb (length head) header_limit || ltb (length ws) records_limit
 
 -- ---- numbers
-
--- the ending of a word's number, as `ending_number` of run_loop has it
-unfoldable pub ending_in : ℕ → Ending
-ending_in n = cond (eqb n 1) Done (cond (eqb n 2) Spent TooMany)
 
 -- the position of a place in the sheet; past the last entry there is none but the end
 abbrev pub place_number : Place → ℕ

@@ -3,22 +3,20 @@ ghost use Rattle.std.specs.Prelude.{◌≡◌};
 ghost use Rattle.std.proofs.lemmas.List.Edits.{sets};
 ghost use Rattle.words.specs.Words.{header_words, header_in, probe_in, probe_words, words_short};
 
-use job::{JobHeader, Probe};
+use job::JobHeader;
 use lent::{at, put};
 
 // The probe range of three words: whether there is one, and its points.
-fn probe_of(has: u64, from: u64, to: u64) -> Probe
+#[tactic(auto, unfolding(crate::specs::Words::probe_in))]
+fn probe_of(has: u64, from: u64, to: u64) -> Option<(u32, u32)>
     ensures { result ≡ probe_in has from to }
 {
-    if has == 0 {
-        return Probe::NoProbe;
-    }
-    let a = (from % 0x1_0000_0000) as u32;
-    let b = (to % 0x1_0000_0000) as u32;
-    Probe::Over(a, b)
+    let points = ((from % 0x1_0000_0000) as u32, (to % 0x1_0000_0000) as u32);
+    (has != 0).then_some(points)
 }
 
 // The header that stands in the words, whatever they are: of each the low bits that its field has room for.
+#[tactic(auto, unfolding(crate::specs::Words::header_in))]
 pub fn header_of(words: &[u64]) -> JobHeader
     ensures { result ≡ header_in words.now }
 {
@@ -37,16 +35,16 @@ pub fn header_of(words: &[u64]) -> JobHeader
 }
 
 // Stores the three words of a probe range.
-fn store_probe(probe: Probe, words: &mut [u64])
+fn store_probe(probe: Option<(u32, u32)>, words: &mut [u64])
     ensures { words.new ≡ sets words.old 4 (probe_words probe) }
 {
     match probe {
-        Probe::NoProbe => {
+        None => {
             put(words, 4, 0);
             put(words, 5, 0);
             put(words, 6, 0);
         }
-        Probe::Over(from, to) => {
+        Some((from, to)) => {
             put(words, 4, 1);
             put(words, 5, from as u64);
             put(words, 6, to as u64);
@@ -55,6 +53,7 @@ fn store_probe(probe: Probe, words: &mut [u64])
 }
 
 // Stores the header from the front of the words.
+#[tactic(auto, unfolding(crate::specs::Words::header_words))]
 pub fn store_header(header: JobHeader, words: &mut [u64])
     ensures { words.new ≡ sets words.old 0 (header_words header) }
 {
@@ -62,8 +61,7 @@ pub fn store_header(header: JobHeader, words: &mut [u64])
     put(words, 1, header.classes as u64);
     put(words, 2, header.virt_regs as u64);
     put(words, 3, header.budget as u64);
-    let probe = header.probe;
-    store_probe(probe, words);
+    store_probe(header.probe, words);
     put(words, 7, 0);
 }
 
@@ -71,8 +69,5 @@ pub fn store_header(header: JobHeader, words: &mut [u64])
 pub fn short_words(header: &[u64], records: &[u64]) -> bool
     ensures { result ≡ words_short header.now records.now }
 {
-    if header.len() < 8 {
-        return true;
-    }
-    records.len() < 512
+    header.len() < 8 || records.len() < 512
 }

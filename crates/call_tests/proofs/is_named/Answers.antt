@@ -8,4 +8,4 @@ pub returns-then-has_reg : goal.returns-then-has_reg
 returns-then-has_reg c = named_class (lists_in (slices [] [] c.args.j16.now c.args.j8.now [])) _ _ _ _ _ c.class_of-class.ensures c.has_reg.ensures c.if-has_reg.true
 
 pub returns : goal.returns
-returns c = named_sets (lists_in (slices [] [] c.args.j16.now c.args.j8.now [])) _ _ _ _ _ c.class_of-class.ensures c.has_reg.ensures c.if-has_reg.false _ _ (c.at16-set.ensures ∙ rw c.from16-sets.ensures) (c.set_names.ensures ∙ rw (c.from16-sets.ensures, c.from16-starts.ensures, c.from8.ensures))
+returns c = named_sets (lists_in (slices [] [] c.args.j16.now c.args.j8.now [])) _ _ _ _ _ c.class_of-class.ensures c.has_reg.ensures c.if-has_reg.false _ _ (c.at-set.ensures ∙ rw c.from-sets.ensures) (c.set_names.ensures ∙ rw (c.from-sets.ensures, c.from-starts.ensures, c.from.ensures))

@@ -1,22 +1,6 @@
-use borrow.Author.Tests.{le-leb, lt-leb}
+use borrow.Author.Tests.{lt-leb}
 use Rattle.reg_matrix.specs.Refusals.{refusal}
 use Rattle.call_tests.proofs.place_refusal.Goals as goal
-
-pub returns-then-short : goal.returns-then-short
-unfolding refusal
-returns-then-short c = rw c.if-short.true
-
-pub returns-then-is_unknown : goal.returns-then-is_unknown
-unfolding refusal
-returns-then-is_unknown c = rw (c.if-short.false, ← c.is_unknown.ensures, c.if-is_unknown.true)
-
-pub returns-then-weight-ge2139095040 : goal.returns-then-weight-ge2139095040
-unfolding refusal
-returns-then-weight-ge2139095040 c = rw (c.if-short.false, ← c.is_unknown.ensures, c.if-is_unknown.false, le-leb _ _ c.if-weight-ge2139095040.true)
-
-pub returns-then-not-is_free : goal.returns-then-not-is_free
-unfolding refusal
-returns-then-not-is_free c = rw (c.if-short.false, ← c.is_unknown.ensures, c.if-is_unknown.false, lt-leb _ _ c.if-weight-ge2139095040.false, ← c.is_free.ensures, c.if-not-is_free.true)
 
 pub returns-then-not-is_clear_at : goal.returns-then-not-is_clear_at
 unfolding refusal

@@ -7,6 +7,3 @@ use Rattle.call_tests.proofs.set_names.Given as goal
 
 abbrev pub invariant-loop-k : goal.invariant-loop-k
 invariant-loop-k l = any (hinted_at l.sets l.starts l.hints l.set l.reg) (count 0 l.n) ≡ any (hinted_at l.sets l.starts l.hints l.set l.reg) (count l.k (l.n - l.k))
-
-abbrev pub decreases-loop-k : goal.decreases-loop-k
-decreases-loop-k l = l.n - l.k

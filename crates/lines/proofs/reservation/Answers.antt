@@ -10,7 +10,3 @@ returns-in-Held c = rw c.in-Held.is (laws.then (laws.then c.text-a.ensures c.num
 pub returns-in-FixedUse : goal.returns-in-FixedUse
 unfolding ascii reservation_text
 returns-in-FixedUse c = rw c.in-FixedUse.is (laws.then c.text-a-in-FixedUse.ensures c.number.ensures)
-
-pub returns-in-FixedDef : goal.returns-in-FixedDef
-unfolding ascii reservation_text
-returns-in-FixedDef c = rw c.in-FixedDef.is c.text.ensures

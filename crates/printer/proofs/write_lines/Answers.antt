@@ -1,6 +1,8 @@
 use borrow.Author.Rules.{rules}
 use native.Mathlib.Omega.{arith}
-use mathlib.Core.Path.{refl, ◌∙◌}
+use mathlib.Core.Path.{refl, ap, ◌∙◌}
+use Rattle.std.specs.Prelude.{Ok}
+use Rattle.reg_matrix.specs.Refused.{numbered}
 use Rattle.sheets.proofs.NextLaws.{next_fewer}
 use Rattle.sheets.proofs.CountLaws.{count_start}
 use Rattle.printer.proofs.WriteLaws.{lines_short, lines_end, line_room, line_written}
@@ -9,20 +11,20 @@ use Rattle.printer.proofs.write_lines.Goals as goal
 pub loop-n-init : goal.loop-n-init
 loop-n-init c = (count_start _ _ _ (search rules), c.requires, refl)
 
-pub returns-in-End : goal.returns-in-End
-returns-in-End c = lines_end _ _ _ _ _ c.loop-n.invariant.0 _ _ c.loop-n.invariant.1 c.next.auto.line _ c.next.ensures c.in-End.is
+pub returns-in-Ok-None : goal.returns-in-Ok-None
+returns-in-Ok-None c = lines_end _ _ _ _ _ c.loop-n.invariant.0 _ _ c.loop-n.invariant.1 c.next.auto.line _ c.next.ensures (ap numbered (c.in-Ok-None.is ∙ ap Ok c.in-Ok-None.field-0-is))
 
-pub returns-in-Refused : goal.returns-in-Refused
-returns-in-Refused c = lines_short _ _ _ _ _ c.loop-n.invariant.0
+pub returns-in-Err : goal.returns-in-Err
+returns-in-Err c = lines_short _ _ _ _ _ c.loop-n.invariant.0
 
 pub returns-then-not-front : goal.returns-then-not-front
 returns-then-not-front c = lines_short _ _ _ _ _ c.loop-n.invariant.0
 
 pub overflow_add-bytes : goal.overflow_add-bytes
-overflow_add-bytes c = record { fits = omega (arith, line_room _ _ _ _ _ c.loop-n.invariant.0 _ _ c.loop-n.invariant.1 c.next.auto.line _ c.next.ensures _ _ c.in-Line.is _ c.write_front-front.ensures) }
+overflow_add-bytes c = record { fits = omega (arith, line_room _ _ _ _ _ c.loop-n.invariant.0 _ _ c.loop-n.invariant.1 c.next.auto.line _ c.next.ensures _ _ (ap numbered (c.in-Ok-Some.is ∙ ap Ok c.in-Ok-Some.field-0-is)) _ c.write_front-front.ensures) }
 
 pub loop-n-smaller : goal.loop-n-smaller
-loop-n-smaller c = next_fewer _ _ _ _ _ _ _ _ c.next.ensures c.in-Line.is c.loop-n.invariant.1
+loop-n-smaller c = next_fewer _ _ _ _ _ _ _ _ c.next.ensures (ap numbered (c.in-Ok-Some.is ∙ ap Ok c.in-Ok-Some.field-0-is)) c.loop-n.invariant.1
 
 pub loop-n-preserved : goal.loop-n-preserved
-loop-n-preserved c = (line_written _ _ _ _ _ c.loop-n.invariant.0 _ _ c.loop-n.invariant.1 c.next.auto.line _ c.next.ensures _ _ c.in-Line.is _ c.write_front-front.ensures c.if-not-front.false, omega (arith, c.loop-n.invariant.1, c.next.auto.line), c.next.auto.line ∙ c.loop-n.invariant.2)
+loop-n-preserved c = (line_written _ _ _ _ _ c.loop-n.invariant.0 _ _ c.loop-n.invariant.1 c.next.auto.line _ c.next.ensures _ _ (ap numbered (c.in-Ok-Some.is ∙ ap Ok c.in-Ok-Some.field-0-is)) _ c.write_front-front.ensures c.if-not-front.false, omega (arith, c.loop-n.invariant.1, c.next.auto.line), c.next.auto.line ∙ c.loop-n.invariant.2)

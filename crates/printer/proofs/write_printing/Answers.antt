@@ -1,8 +1,11 @@
+use Rattle.std.proofs.Common.{sym, ap, ◌∙◌}
+use Rattle.std.specs.Prelude.{Err}
+use Rattle.reg_matrix.specs.Refused.{numbered}
 use Rattle.printer.proofs.WriteLaws.{refusal_written, lines_written}
 use Rattle.printer.proofs.write_printing.Goals as goal
 
-pub returns-in-Refused : goal.returns-in-Refused
-returns-in-Refused c = refusal_written _ _ _ _ _ c.in-Refused.is _ _ _ c.requires c.refused-size.ensures c.write_front.ensures
+pub returns-in-Err : goal.returns-in-Err
+returns-in-Err c = refusal_written _ _ _ _ _ (ap numbered c.in-Err.is ∙ ap Err (sym c.number.ensures)) _ _ _ c.requires c.refused-size.ensures c.write_front.ensures
 
-pub returns-in-At : goal.returns-in-At
-returns-in-At c = lines_written _ _ _ _ _ c.in-At.is c.write_lines.ensures
+pub returns-in-Ok : goal.returns-in-Ok
+returns-in-Ok c = lines_written _ _ _ _ _ (ap numbered c.in-Ok.is) c.write_lines.ensures

@@ -1,11 +1,7 @@
-use Prim.Native.Nat.{◌≤◌, ◌-◌}
+use Prim.Native.Nat.{◌-◌}
 use mathlib.Core.Path.{◌≡◌}
-use lib.ListN.{length}
 use Rattle.queue.specs.QueueWalk.{leaves_from, first_word}
 use Rattle.queue.proofs.fill_leaves.Given as goal
 
 abbrev pub invariant-loop-number : goal.invariant-loop-number
-invariant-loop-number l = (l.number ≤ 512) × (length l.queue ≡ length l.initial.queue) × (leaves_from (first_word l.count l.starts l.sizes) (512 - l.number) l.number l.queue ≡ leaves_from (first_word l.count l.starts l.sizes) 512 0 l.initial.queue)
-
-abbrev pub decreases-loop-number : goal.decreases-loop-number
-decreases-loop-number l = 512 - l.number
+invariant-loop-number l = leaves_from (first_word l.count l.starts l.sizes) (512 - l.number) l.number l.queue ≡ leaves_from (first_word l.count l.starts l.sizes) 512 0 l.initial.queue

@@ -1,4 +1,3 @@
-use Prim.Native.Nat.{◌-◌}
 use lib.ListN.{get_or}
 use Rattle.record_words.specs.Words.{record_in}
 use Rattle.record_words.proofs.Filling.{Filling}
@@ -6,6 +5,3 @@ use Rattle.record_words.proofs.read.Given as goal
 
 abbrev pub invariant-loop-i : goal.invariant-loop-i
 invariant-loop-i l = Filling (λ v. record_in (get_or l.words v 0)) 512 l.all l.i
-
-abbrev pub decreases-loop-i : goal.decreases-loop-i
-decreases-loop-i l = 512 - l.i

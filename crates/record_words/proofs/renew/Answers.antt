@@ -1,4 +1,4 @@
-use Rattle.record_words.proofs.WordLaws.{renew_start, renew_more, store_end, store_back}
+use Rattle.record_words.proofs.WordLaws.{renew_start, renew_more, store_back}
 use Rattle.record_words.proofs.renew.Goals as goal
 
 pub loop-i-init : goal.loop-i-init
@@ -7,8 +7,5 @@ loop-i-init c = renew_start _
 pub loop-i-preserved : goal.loop-i-preserved
 loop-i-preserved c = renew_more c.loop-i.invariant _ _ c.loop-i-test.true (rw (c.record_of.ensures, c.at.ensures) at c.word_of.ensures) c.put.ensures
 
-pub shape_of-words : goal.shape_of-words
-shape_of-words c = c.loop-i.invariant.stored.kept
-
-pub returns : goal.returns
-returns c = record { words_after = store_end c.loop-i.invariant.stored c.loop-i-test.false; words_unchanged = store_back c.loop-i.invariant.stored c.loop-i-test.false }
+pub returns-clause-words_unchanged : goal.returns-clause-words_unchanged
+returns-clause-words_unchanged c = store_back c.loop-i.invariant.stored c.loop-i-test.false

@@ -1,5 +1,5 @@
 -- The invariant: the classes read so far are stored with their starts, g counts their registers, and the rest from here is the rest of the whole.
-use Prim.Native.Nat.{ℕ, ◌*◌, ◌-◌, ◌≤◌}
+use Prim.Native.Nat.{ℕ, ◌*◌, ◌≤◌}
 use mathlib.Core.Path.{◌≡◌}
 use mathlib.Core.List.{List}
 use lib.ListN.{length}
@@ -11,6 +11,3 @@ use Rattle.reg_reader.proofs.classes.Given as goal
 abbrev pub invariant-loop-i : goal.invariant-loop-i
 invariant-loop-i l =
     (before : List (List ℕ)) × Reading l.s (λ before. class l.regs) l.count l.start l.i l.at before × (length (all_members before) ≡ l.g) × (l.g ≤ 64 * l.i) × ClassesAt l.initial.starts l.initial.list l.starts l.list before
-
-abbrev pub decreases-loop-i : goal.decreases-loop-i
-decreases-loop-i l = l.count - l.i

@@ -1,5 +1,5 @@
 -- The invariant: the numbers read so far are stored, and the rest from here is the rest of the whole.
-use Prim.Native.Nat.{ℕ, ◌-◌}
+use Prim.Native.Nat.{ℕ}
 use mathlib.Core.List.{List}
 use Rattle.job.specs.Load.{known}
 use Rattle.reader.specs.Read.{Stored}
@@ -9,6 +9,3 @@ use Rattle.reg_reader.proofs.members.Given as goal
 abbrev pub invariant-loop-i : goal.invariant-loop-i
 invariant-loop-i l =
     (before : List ℕ) × Reading l.s (λ before. known 1 l.regs) l.count l.start l.i l.at before × Stored (λ (x : ℕ). x) l.initial.list l.g before l.list
-
-abbrev pub decreases-loop-i : goal.decreases-loop-i
-decreases-loop-i l = l.count - l.i

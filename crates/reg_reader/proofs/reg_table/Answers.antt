@@ -1,22 +1,23 @@
 use native.Mathlib.Omega.{arith}
 use mathlib.Core.Path.{◌∙◌}
 use mathlib.Core.List.{[]}
+use Rattle.std.proofs.lemmas.Result.{err_from_is_err_and}
 use Rattle.job.specs.Load.{register}
-use Rattle.reader.proofs.Answers.{no_num, took_num, num_small}
 use Rattle.reader.proofs.Reading.{each_length}
 use Rattle.reader.proofs.Tables.{counted}
 use Rattle.reg_reader.proofs.reg_table.Goals as goal
 
-pub overflow_cast-k : goal.overflow_cast-k
-overflow_cast-k c = record { fits = omega (arith, num_small c.count8.ensures c.in-Is.is) }
+pub returns-in_err-k : goal.returns-in_err-k
+returns-in_err-k c =
+    let p = err_from_is_err_and c.from_residual.result c.from_residual.ensures.1 in
+    rw (p.1, p.2) (counted (λ before. register) c.args.stands 1 64 _ ∙ rw (← c.in_err-k.ensures.view))
 
-pub returns-in-Refused : goal.returns-in-Refused
-returns-in-Refused c = counted (λ before. register) c.args.stands 1 64 _ ∙ rw (no_num c.count8.ensures c.in-Refused.is)
+pub returns-in_err-next : goal.returns-in_err-next
+returns-in_err-next c =
+    let p = err_from_is_err_and c.from_residual-in_err-next.result c.from_residual-in_err-next.ensures.1 in
+    rw (p.1, p.2) (counted (λ before. register) c.args.stands 1 64 _ ∙ rw (← c.in_ok-k.ensures.view) c.in_err-next.ensures)
 
-pub returns-in-Refused-registers : goal.returns-in-Refused-registers
-returns-in-Refused-registers c = counted (λ before. register) c.args.stands 1 64 _ ∙ rw (took_num c.count8.ensures c.in-Is.is) (rw c.in-Refused-registers.is at c.registers.ensures)
-
-pub returns-in-At : goal.returns-in-At
-returns-in-At c =
-    let w = rw c.in-At.is at c.registers.ensures in
-    (w.0, counted (λ before. register) c.args.stands 1 64 _ ∙ rw (took_num c.count8.ensures c.in-Is.is) w.1, each_length (λ before. register) c.in-Is.k [] _ w.1 ∙ omega arith, num_small c.count8.ensures c.in-Is.is, w.2)
+pub returns : goal.returns
+returns c =
+    let w = c.in_ok-next.ensures in
+    (w.0, counted (λ before. register) c.args.stands 1 64 _ ∙ rw (← c.in_ok-k.ensures.view) w.1, each_length (λ before. register) c.in_ok-k.k [] _ w.1 ∙ omega arith, c.in_ok-k.ensures.small, w.2)

@@ -2,22 +2,18 @@ use borrow.Author.Rules.{rules}
 use native.Mathlib.Omega.{arith}
 use mathlib.Core.Path.{sym}
 use borrow.Author.Tests.{lt-ltb, le-ltb, eq-eqb, ne_eqb}
-use Rattle.reader.proofs.Answers.{short, took, took_small, ones_in_lem}
+use Rattle.reader.proofs.Answers.{ones_in_lem}
 use Rattle.job.specs.Load.{register}
 use Rattle.reg_reader.proofs.register.Goals as goal
 
-pub returns-in_default : goal.returns-in_default
-unfolding register
-returns-in_default c = record { view = sym (rw (short c.long.ensures c.in_default.is)); small = search rules }
-
 pub returns-then-m-gt4 : goal.returns-then-m-gt4
 unfolding register
-returns-then-m-gt4 c = record { view = sym (rw (took c.long.ensures c.in-Value.is, ← ones_in_lem 64 c.in-Value.m (took_small c.long.ensures c.in-Value.is), lt-ltb _ _ c.if-m-gt4.true)); small = search rules }
+returns-then-m-gt4 c = record { view = sym (rw (← c.in_ok-m.ensures.view, ← ones_in_lem 64 c.in_ok-m.m c.in_ok-m.ensures.small, lt-ltb _ _ c.if-m-gt4.true)); small = search rules }
 
 pub returns-then-m-eq0 : goal.returns-then-m-eq0
 unfolding register
-returns-then-m-eq0 c = record { view = sym (rw (took c.long.ensures c.in-Value.is, ← ones_in_lem 64 c.in-Value.m (took_small c.long.ensures c.in-Value.is), le-ltb _ _ c.if-m-gt4.false, eq-eqb _ _ c.if-m-eq0.true)); small = search rules }
+returns-then-m-eq0 c = record { view = sym (rw (← c.in_ok-m.ensures.view, ← ones_in_lem 64 c.in_ok-m.m c.in_ok-m.ensures.small, le-ltb _ _ c.if-m-gt4.false, eq-eqb _ _ c.if-m-eq0.true)); small = search rules }
 
 pub returns : goal.returns
 unfolding register
-returns c = record { view = sym (rw (took c.long.ensures c.in-Value.is, ← ones_in_lem 64 c.in-Value.m (took_small c.long.ensures c.in-Value.is), le-ltb _ _ c.if-m-gt4.false, ne_eqb _ _ c.if-m-eq0.false)); small = omega (arith, took_small c.long.ensures c.in-Value.is) }
+returns c = record { view = sym (rw (← c.in_ok-m.ensures.view, ← ones_in_lem 64 c.in_ok-m.m c.in_ok-m.ensures.small, le-ltb _ _ c.if-m-gt4.false, ne_eqb _ _ c.if-m-eq0.false)); small = omega (arith, c.in_ok-m.ensures.small) }

@@ -1,31 +1,27 @@
 use Prim.Native.Nat.{◌+◌}
 use native.Mathlib.Omega.{arith}
-use mathlib.Core.Path.{◌≡◌}
+use mathlib.Core.Path.{◌≡◌, sym}
 use mathlib.Core.List.{[], ◌∷◌, ◌++◌}
 use lib.ListN.{length}
-use Rattle.reader.proofs.Answers.{no_num, took_num}
+use Rattle.std.proofs.lemmas.Result.{err_from_is_err_and}
 use Rattle.reader.proofs.Reading.{begin, more, stops, ends}
-use Rattle.reader.proofs.Stores.{none_stored, more_stored, stored_length}
+use Rattle.reader.proofs.Stores.{none_stored, more_stored}
 use Rattle.reg_reader.proofs.registers.Goals as goal
 
 pub loop-i-init : goal.loop-i-init
 loop-i-init c = ([], begin, none_stored)
 
-pub shape_of-maps-in-Refused : goal.shape_of-maps-in-Refused
-shape_of-maps-in-Refused c = stored_length c.loop-i.invariant.2
-
-pub returns-in-Refused : goal.returns-in-Refused
-returns-in-Refused c = stops c.loop-i.invariant.1 c.loop-i-test.true (no_num c.register.ensures c.in-Refused.is)
+pub returns-in_err-m : goal.returns-in_err-m
+returns-in_err-m c =
+    let p = err_from_is_err_and c.from_residual.result c.from_residual.ensures.1 in
+    rw (p.1, p.2) (stops c.loop-i.invariant.1 c.loop-i-test.true (sym c.in_err-m.ensures.view))
 
 pub loop-i-preserved : goal.loop-i-preserved
 loop-i-preserved c =
     let v = c.loop-i.invariant in
-    let x = c.in-Is.m in
+    let x = c.in_ok-m.m in
     let n : 0 + length v.0 ≡ c.loop-i.i = omega (arith, v.1.read) in
-    (v.0 ++ (x ∷ []), more v.1 c.loop-i-test.true (took_num c.register.ensures c.in-Is.is), more_stored v.2 x n c.put.ensures)
-
-pub shape_of-maps : goal.shape_of-maps
-shape_of-maps c = stored_length c.loop-i.invariant.2
+    (v.0 ++ (x ∷ []), more v.1 c.loop-i-test.true (sym c.in_ok-m.ensures.view), more_stored v.2 x n c.put.ensures)
 
 pub returns : goal.returns
 returns c = (c.loop-i.invariant.0, ends c.loop-i.invariant.1 c.loop-i-test.false, c.loop-i.invariant.2)

@@ -1,5 +1,5 @@
 -- The invariant: the maps read so far are stored, and the rest from here is the rest of the whole.
-use Prim.Native.Nat.{ℕ, ◌-◌}
+use Prim.Native.Nat.{ℕ}
 use mathlib.Core.List.{List}
 use Rattle.job.specs.Load.{register}
 use Rattle.reader.specs.Read.{Stored}
@@ -9,6 +9,3 @@ use Rattle.reg_reader.proofs.registers.Given as goal
 abbrev pub invariant-loop-i : goal.invariant-loop-i
 invariant-loop-i l =
     (before : List ℕ) × Reading l.s (λ before. register) l.count l.start l.i l.at before × Stored (λ (x : ℕ). x) l.initial.maps 0 before l.maps
-
-abbrev pub decreases-loop-i : goal.decreases-loop-i
-decreases-loop-i l = l.count - l.i

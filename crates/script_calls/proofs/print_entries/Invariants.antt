@@ -1,10 +1,5 @@
-use Prim.Native.Nat.{◌-◌}
-use mathlib.Core.Path.{◌≡◌}
-use lib.ListN.{length}
+use Rattle.std.proofs.Common.{◌≡◌, length}
 use Rattle.script_calls.proofs.print_entries.Given as goal
 
 abbrev pub invariant-loop-i : goal.invariant-loop-i
 invariant-loop-i l = length l.line ≡ length l.initial.line
-
-abbrev pub decreases-loop-i : goal.decreases-loop-i
-decreases-loop-i l = 2560 - l.i

@@ -1,4 +1,6 @@
 use mathlib.Core.Logic.{inl, inr}
+use mathlib.Core.Path.{refl}
+use Rattle.std.proofs.lemmas.Result.{err_from_is_err_and}
 use Rattle.stage_loader.proofs.StageLoads.{short_load, refused_load, accepted_load}
 use Rattle.stage_loader.proofs.load.Goals as goal
 
@@ -8,8 +10,10 @@ returns-then-queue-lt1024 c = short_load _ _ _ (inl c.if-queue-lt1024.true)
 pub returns-then-last-lt512 : goal.returns-then-last-lt512
 returns-then-last-lt512 c = short_load _ _ _ (inr c.if-last-lt512.true)
 
-pub returns-in-Refused : goal.returns-in-Refused
-returns-in-Refused c = refused_load _ _ _ c.if-queue-lt1024.false c.if-last-lt512.false _ _ _ _ c.load.ensures _ c.in-Refused.is
+pub returns-in_err-header : goal.returns-in_err-header
+returns-in_err-header c =
+    let p = err_from_is_err_and c.from_residual.result c.from_residual.ensures.1 in
+    rw (p.1, p.2) (refused_load _ _ _ c.if-queue-lt1024.false c.if-last-lt512.false _ _ _ _ c.in_err-header.ensures _ refl)
 
-pub returns-in-Is : goal.returns-in-Is
-returns-in-Is c = accepted_load _ _ _ c.if-queue-lt1024.false c.if-last-lt512.false _ _ _ _ c.load.ensures (λ i. (c.shared_slice_known-1.given i).fits) _ c.in-Is.is _ _ (rw (c.from16.ensures, c.from32.ensures) at c.init.ensures) c.pad8.ensures
+pub returns : goal.returns
+returns c = accepted_load _ _ _ c.if-queue-lt1024.false c.if-last-lt512.false _ _ _ _ c.in_ok-header.ensures (λ i. (c.type_inv.s i).fits) _ refl _ _ (rw (c.from.ensures, c.from-2.ensures) at c.init.ensures) c.pad.ensures

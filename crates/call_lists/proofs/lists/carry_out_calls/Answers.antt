@@ -12,8 +12,8 @@ loop-header-init c = (laws.list_start _ _ c.args.list.now _ _ _, refl, refl, ref
 pub call_at-call-requires : goal.call_at-call-requires
 call_at-call-requires c = let g : length c.args.list.now < 0x1_0000_0000_0000_0000 = c.well_formed.1.1.0.0 in let r = laws.has_room c.args.list.now c.loop-header.from (sym c.has_call.ensures ∙ c.loop-header-test.true) in omega (arith, g, r)
 
-pub make-after-requires : goal.make-after-requires
-make-after-requires c = let g : length c.args.list.now < 0x1_0000_0000_0000_0000 = c.well_formed.1.1.0.0 in let r = laws.has_room c.args.list.now c.loop-header.from (sym c.has_call.ensures ∙ c.loop-header-test.true) in let w = c.loop-header.invariant.0.to_within in rw c.call_at-call.ensures (omega (arith, g, r, w))
+pub carry_out-after-requires : goal.carry_out-after-requires
+carry_out-after-requires c = let g : length c.args.list.now < 0x1_0000_0000_0000_0000 = c.well_formed.1.1.0.0 in let r = laws.has_room c.args.list.now c.loop-header.from (sym c.has_call.ensures ∙ c.loop-header-test.true) in let w = c.loop-header.invariant.0.to_within in rw c.call_at-call.ensures (omega (arith, g, r, w))
 
 pub overflow_add-from : goal.overflow_add-from
 overflow_add-from c = record { fits = let g : length c.args.list.now < 0x1_0000_0000_0000_0000 = c.well_formed.1.1.0.0 in let r = laws.has_room c.args.list.now c.loop-header.from (sym c.has_call.ensures ∙ c.loop-header-test.true) in omega (arith, g, r) }
@@ -28,7 +28,7 @@ pub loop-header-smaller : goal.loop-header-smaller
 loop-header-smaller c = let r = laws.has_room c.args.list.now c.loop-header.from (sym c.has_call.ensures ∙ c.loop-header-test.true) in omega (arith, r)
 
 pub loop-header-preserved : goal.loop-header-preserved
-loop-header-preserved c = (laws.list_more _ _ c.args.list.now _ _ _ _ _ _ _ _ _ c.loop-header.invariant.0 (sym c.loop-header-test.true ∙ c.has_call.ensures) c.loop-header.invariant.1 c.loop-header.invariant.2 c.loop-header.invariant.3 c.loop-header.invariant.4 _ _ _ (rw c.call_at-call.ensures at c.make-after.ensures), c.make-after.auto.ends ∙ c.loop-header.invariant.1, c.make-after.auto.rests ∙ c.loop-header.invariant.2, c.make-after.auto.queue ∙ c.loop-header.invariant.3, c.make-after.auto.last ∙ c.loop-header.invariant.4, c.make-after.auto.out ∙ c.loop-header.invariant.5, search rules)
+loop-header-preserved c = (laws.list_more _ _ c.args.list.now _ _ _ _ _ _ _ _ _ c.loop-header.invariant.0 (sym c.loop-header-test.true ∙ c.has_call.ensures) c.loop-header.invariant.1 c.loop-header.invariant.2 c.loop-header.invariant.3 c.loop-header.invariant.4 _ _ _ (rw c.call_at-call.ensures at c.carry_out-after.ensures), c.carry_out-after.auto.ends ∙ c.loop-header.invariant.1, c.carry_out-after.auto.rests ∙ c.loop-header.invariant.2, c.carry_out-after.auto.queue ∙ c.loop-header.invariant.3, c.carry_out-after.auto.last ∙ c.loop-header.invariant.4, c.carry_out-after.auto.out ∙ c.loop-header.invariant.5, search rules)
 
 pub shape_of-ends : goal.shape_of-ends
 shape_of-ends c = c.loop-header.invariant.1

@@ -1,5 +1,4 @@
 -- The invariant: the hints read so far are stored, and the rest from here is the rest of the whole.
-use Prim.Native.Nat.{◌-◌}
 use mathlib.Core.List.{List}
 use Rattle.job.specs.declared.Hint.{Hint}
 use Rattle.job.specs.Load.{hint}
@@ -9,6 +8,3 @@ use Rattle.fields.proofs.virt.hints.Given as goal
 
 abbrev pub invariant-loop-i : goal.invariant-loop-i
 invariant-loop-i l = (before : List Hint) × Reading l.s (λ before. hint l.regs) l.count l.start l.i l.at before × HintsAt l.h l.initial.j8 l.initial.jf l.j8 l.jf before
-
-abbrev pub decreases-loop-i : goal.decreases-loop-i
-decreases-loop-i l = l.count - l.i

@@ -1,5 +1,4 @@
 -- The invariant: the segments read so far are stored, and the rest of them from here are the rest of the whole.
-use Prim.Native.Nat.{◌-◌}
 use mathlib.Core.Path.{◌≡◌}
 use mathlib.Core.List.{List}
 use Rattle.reg_matrix.specs.declared.ValueSegment.{ValueSegment}
@@ -10,6 +9,3 @@ use Rattle.fields.proofs.virt.segments.Given as goal
 
 abbrev pub invariant-loop-i : goal.invariant-loop-i
 invariant-loop-i l = (before : List ValueSegment) × Reading l.s segment l.count l.start l.i l.at before × (l.past ≡ past_of before) × SegmentsAt l.g l.initial.j32 l.initial.j16 l.j32 l.j16 before
-
-abbrev pub decreases-loop-i : goal.decreases-loop-i
-decreases-loop-i l = l.count - l.i

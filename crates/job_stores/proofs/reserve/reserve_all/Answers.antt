@@ -11,20 +11,8 @@ use Rattle.job_stores.proofs.reserve.reserve_all.Goals as goal
 pub loop-i-init : goal.loop-i-init
 loop-i-init c = (let e : c.args.n - 0 ≡ c.args.n = omega arith in rw e, refl, refl, refl)
 
-pub overflow_add-i : goal.overflow_add-i
-overflow_add-i c = record { fits = omega (arith, c.ranges.n.fits, c.loop-i-test.true) }
-
 pub loop-i-preserved : goal.loop-i-preserved
-loop-i-preserved c = (let a = c.args in let v = c.loop-i in ap (λ (l : Lain). foldl (λ l k. reserving (get_or a.units.now k 0) (get_or a.froms.now k 0) (get_or a.tos.now k 0) (get_or a.uses.now k 0) l) l (count (v.i + 1) (a.n - (v.i + 1)))) (c.reserve_fixed.ensures ∙ rw (c.at8.ensures, c.at32.ensures, c.at32-in-loop-i.ensures, c.at32-in-loop-i-2.ensures)) ∙ sym (fold_more _ a.n v.i _ c.loop-i-test.true) ∙ v.invariant.0, c.reserve_fixed.auto.ends ∙ c.loop-i.invariant.1, c.reserve_fixed.auto.rests ∙ c.loop-i.invariant.2, c.reserve_fixed.auto.uses ∙ c.loop-i.invariant.3)
-
-pub shape_of-ends : goal.shape_of-ends
-shape_of-ends c = c.loop-i.invariant.1 ∙ c.clear.auto.ends
-
-pub shape_of-rests : goal.shape_of-rests
-shape_of-rests c = c.loop-i.invariant.2 ∙ c.clear.auto.rests
-
-pub shape_of-words : goal.shape_of-words
-shape_of-words c = c.loop-i.invariant.3 ∙ c.clear.auto.uses
+loop-i-preserved c = (let a = c.args in let v = c.loop-i in ap (λ (l : Lain). foldl (λ l k. reserving (get_or a.units.now k 0) (get_or a.froms.now k 0) (get_or a.tos.now k 0) (get_or a.uses.now k 0) l) l (count (v.i + 1) (a.n - (v.i + 1)))) (c.reserve_fixed.ensures ∙ rw (c.at.ensures, c.at-in-loop-i.ensures, c.at-in-loop-i-2.ensures, c.at-in-loop-i-3.ensures)) ∙ sym (fold_more _ a.n v.i _ c.loop-i-test.true) ∙ v.invariant.0, c.reserve_fixed.auto.ends ∙ c.loop-i.invariant.1, c.reserve_fixed.auto.rests ∙ c.loop-i.invariant.2, c.reserve_fixed.auto.uses ∙ c.loop-i.invariant.3)
 
 pub returns : goal.returns
 unfolding reserving_all cleared

@@ -3,4 +3,4 @@ use Rattle.loader.proofs.load.job_refusal.Goals as goal
 
 pub returns : goal.returns
 unfolding job_refusal
-returns c = rw (c.from8.ensures, c.from16.ensures, c.from32.ensures, c.from16-2.ensures) at c.whole_refusal.ensures
+returns c = rw (c.from.ensures, c.from-2.ensures, c.from-3.ensures, c.from-4.ensures) at c.whole_refusal.ensures

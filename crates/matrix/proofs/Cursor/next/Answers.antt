@@ -6,13 +6,13 @@ pub loop-report-init : goal.loop-report-init
 loop-report-init c = refl
 
 pub returns-in-Meets : goal.returns-in-Meets
-returns-in-Meets c = answered _ _ _ (sym (next_meets _ _ _ _ (sym c.step-x.ensures ∙ c.in-Meets.is)) ∙ c.loop-report.invariant)
+returns-in-Meets c = answered _ _ _ (sym (next_meets _ _ _ _ (sym c.step.ensures ∙ c.in-Meets.is)) ∙ c.loop-report.invariant)
 
 pub returns-in-Ends : goal.returns-in-Ends
-returns-in-Ends c = answered _ _ _ (sym (next_ends _ _ (sym c.step-x.ensures ∙ c.in-Ends.is)) ∙ c.loop-report.invariant)
+returns-in-Ends c = answered _ _ _ (sym (next_ends _ _ (sym c.step.ensures ∙ c.in-Ends.is)) ∙ c.loop-report.invariant)
 
 pub loop-report-smaller : goal.loop-report-smaller
-loop-report-smaller c = goes_less _ _ _ (sym c.step-x.ensures ∙ c.in-Goes.is)
+loop-report-smaller c = goes_less _ _ _ (sym c.step.ensures ∙ c.in-Goes.is)
 
 pub loop-report-preserved : goal.loop-report-preserved
-loop-report-preserved c = sym (next_goes _ _ _ (sym c.step-x.ensures ∙ c.in-Goes.is)) ∙ c.loop-report.invariant
+loop-report-preserved c = sym (next_goes _ _ _ (sym c.step.ensures ∙ c.in-Goes.is)) ∙ c.loop-report.invariant

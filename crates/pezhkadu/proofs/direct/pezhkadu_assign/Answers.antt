@@ -1,12 +1,16 @@
-use mathlib.Core.Path.{sym, ◌∙◌}
+use Rattle.std.proofs.Common.{sym, ◌∙◌, refl}
+use Rattle.std.proofs.lemmas.Result.{err_from_is_err_and}
+use Rattle.calls.proofs.DirectLaws.{some_number}
 use Rattle.pezhkadu.proofs.DirectLaws.{assign_short, assign_refused, assign_done}
 use Rattle.pezhkadu.proofs.direct.pezhkadu_assign.Goals as goal
 
 pub returns-then-short_words : goal.returns-then-short_words
 returns-then-short_words c = assign_short _ _ _ _ _ _ _ (sym c.short_words.ensures ∙ c.if-short_words.true)
 
-pub returns-then-done-ne0 : goal.returns-then-done-ne0
-returns-then-done-ne0 c = assign_refused _ _ _ _ _ _ _ (sym c.short_words.ensures ∙ c.if-short_words.false) _ _ _ _ _ _ _ c.header_of-known.ensures c.cut16-v.ensures c.cut8-reg.ensures c.cut32-weight.ensures (c.place-done.ensures.0 _ c.record_at-a.ensures) c.if-done-ne0.true
+pub returns-in_err-after : goal.returns-in_err-after
+returns-in_err-after c =
+    let p = err_from_is_err_and c.from_residual.result c.from_residual.ensures.1 in
+    rw (p.1, p.2) (assign_refused _ _ _ _ _ _ _ (sym c.short_words.ensures ∙ c.if-short_words.false) _ _ _ _ _ _ _ c.header_of-known.ensures c.cut-v.ensures c.cut-reg.ensures c.cut-weight.ensures (c.in_err-after.ensures _ c.record_at-a.ensures) (some_number _))
 
 pub returns : goal.returns
-returns c = assign_done _ _ _ _ _ _ _ (sym c.short_words.ensures ∙ c.if-short_words.false) _ _ _ _ _ _ _ c.header_of-known.ensures c.cut16-v.ensures c.cut8-reg.ensures c.cut32-weight.ensures (c.place-done.ensures.0 _ c.record_at-a.ensures) c.if-done-ne0.false _ c.put_record.ensures
+returns c = assign_done _ _ _ _ _ _ _ (sym c.short_words.ensures ∙ c.if-short_words.false) _ _ _ _ _ _ _ c.header_of-known.ensures c.cut-v.ensures c.cut-reg.ensures c.cut-weight.ensures (c.in_ok-after.ensures _ c.record_at-a.ensures) refl _ c.put_record.ensures

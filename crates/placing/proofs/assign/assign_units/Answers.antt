@@ -1,23 +1,22 @@
-use borrow.Author.Rules.{rules}
+use Prim.Native.Nat.{◌-◌}
 use native.Mathlib.Omega.{arith}
-use mathlib.Core.Path.{refl, sym, ◌∙◌}
+use mathlib.Core.Path.{sym, ◌∙◌}
 use mathlib.Core.List.{[]}
-use lib.Count.{trailing_le}
+use lib.Bits.{and_le_r}
 use Rattle.entries.specs.Moves.{words}
 use Rattle.entries.specs.Placing.{assigning}
 use Rattle.placing.proofs.PlacingWalks.{units_more, units_end}
 use Rattle.placing.proofs.assign.assign_units.Goals as goal
 
-pub loop-left-init : goal.loop-left-init
-loop-left-init c = (omega arith, refl, refl, refl)
-
-pub overflow_cast-unit : goal.overflow_cast-unit
-overflow_cast-unit c = omega (arith, trailing_le 64 c.loop-left.left)
+pub loop-left-smaller : goal.loop-left-smaller
+loop-left-smaller c = omega (arith, and_le_r c.loop-left.left (c.loop-left.left - 1))
 
 pub loop-left-preserved : goal.loop-left-preserved
 unfolding assigning
-loop-left-preserved c = (omega arith, search rules, search rules, rw c.without_lowest-left.ensures.value (units_more _ _ _ _ c.loop-left-test.true (omega arith) c.assign_unit.ensures) ∙ c.loop-left.invariant.3)
+loop-left-preserved c =
+    let m = c.loop-left.left in
+    (omega (arith, and_le_r m (m - 1)), units_more _ m _ _ c.loop-left-test.true (omega arith) c.assign_unit.ensures ∙ c.loop-left.invariant.1)
 
 pub returns : goal.returns
 unfolding assigning
-returns c = sym (units_end _ _ _ (words [] []) c.loop-left-test.false) ∙ c.loop-left.invariant.3
+returns c = sym (units_end _ _ _ (words [] []) c.loop-left-test.false) ∙ c.loop-left.invariant.1

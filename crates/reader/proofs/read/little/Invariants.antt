@@ -1,12 +1,9 @@
 -- The loop's invariant: the bytes from `at + i` on are read, and give v.
-use Prim.Native.Nat.{◌+◌, ◌-◌, ◌≤◌, ◌<◌, ◌^◌}
+use Prim.Native.Nat.{◌+◌, ◌-◌, ◌<◌, ◌^◌}
 use mathlib.Core.Path.{◌≡◌}
-use lib.ListN.{length, drop}
+use lib.ListN.{drop}
 use Rattle.job.specs.Parser.{parsed, little}
 use Rattle.reader.proofs.read.little.Given as goal
 
 abbrev pub invariant-loop-i : goal.invariant-loop-i
-invariant-loop-i l = (l.i ≤ l.n) × (l.at + l.n ≤ length l.s) × (l.v < 256 ^ (l.n - l.i)) × (little (l.n - l.i) (drop (l.at + l.i) l.s) ≡ parsed l.v (drop (l.at + l.n) l.s))
-
-abbrev pub decreases-loop-i : goal.decreases-loop-i
-decreases-loop-i l = l.i
+invariant-loop-i g l = (l.v < 256 ^ (l.n - l.i)) × (little (l.n - l.i) (drop (l.at + l.i) l.s) ≡ parsed l.v (drop (l.at + l.n) l.s))

@@ -1,9 +1,8 @@
-use mathlib.Core.Path.{◌≡◌}
-use lib.ListN.{length}
+-- The reports still to come become fewer.
+use lib.ListN.{length, take}
+use Rattle.matrix.specs.Walk.{lent, remaining}
+use Rattle.segment_fields.specs.Apart.{froms_of, tos_of, values_of}
 use Rattle.script_io.proofs.questions.print_reports.Given as goal
 
-abbrev pub invariant-loop-turns : goal.invariant-loop-turns
-invariant-loop-turns l = length l.line ≡ length l.initial.line
-
-abbrev pub decreases-loop-turns : goal.decreases-loop-turns
-decreases-loop-turns l = l.turns
+abbrev pub decreases-loop-report : goal.decreases-loop-report
+decreases-loop-report l = length (remaining (lent l.ends l.rests l.uses (froms_of (take l.n l.list)) (tos_of (take l.n l.list)) (values_of (take l.n l.list))) l.here)

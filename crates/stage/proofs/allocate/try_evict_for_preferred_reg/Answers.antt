@@ -1,20 +1,40 @@
+use Prim.Native.Nat.{◌<◌}
 use native.Mathlib.Omega.{arith}
-use mathlib.Core.Path.{refl, sym, ◌∙◌}
+use mathlib.Core.Path.{refl, sym, ap, ◌∙◌}
+use Rattle.std.proofs.Common.{Some}
 use Rattle.order.proofs.OrderLaws.{computed_length, hinted_at_lem}
-use Rattle.stage.proofs.AllocateLaws.{tried_is, prefer_end, prefer_yes, prefer_no}
+use Rattle.stage.proofs.AllocateLaws.{tried_is, prefer_end, prefer_yes, prefer_no, prefer_out}
 use Rattle.stage.proofs.allocate.try_evict_for_preferred_reg.Goals as goal
 
-pub loop-i-init : goal.loop-i-init
-loop-i-init c = (omega arith, λ hs k b. refl)
-
-pub returns-then-order-place : goal.returns-then-order-place
-returns-then-order-place c = λ hs k b. let l = computed_length _ _ _ hs k in c.none_yet.ensures ∙ prefer_end _ _ _ _ _ hs c.loop-i.i (omega (arith, c.if-order-place.true)) ∙ c.loop-i.invariant.1 hs k b
+pub loop-place-preserved-in_default : goal.loop-place-preserved-in_default
+loop-place-preserved-in_default c =
+    λ hs k b.
+    let l = computed_length _ _ _ hs k in
+    let h : c.loop-place.place < c.args.order.count = omega (arith, c.min-place-end.ensures) in
+    prefer_out _ _ _ _ _ hs c.loop-place.place (omega (arith, h, l)) _ (rw (c.at.ensures, c.at-in-loop-place.ensures) (sym (hinted_at_lem _ _ _ hs k c.loop-place.place h))) _
+    (tried_is _ _ _ _ _ _ _ _ _ refl c.at-units.ensures c.try_reports.ensures) c.in_default.is
+    ∙ c.loop-place.invariant hs k b
 
 pub returns-then-is_preferred : goal.returns-then-is_preferred
-returns-then-is_preferred c = λ hs k b. let l = computed_length _ _ _ hs k in c.found.ensures ∙ prefer_yes _ _ _ _ _ hs c.loop-i.i (omega (arith, c.if-order-place.false)) _ (rw (c.at8.ensures, c.at_float.ensures) (sym (hinted_at_lem _ _ _ hs k c.loop-i.i c.if-order-place.false))) _ (tried_is _ _ _ _ _ _ _ _ _ _ c.by_weight-limit.ensures c.wide.ensures c.at-units.ensures c.try_reports-t.ensures) (sym c.is_preferred.ensures ∙ c.if-is_preferred.true) ∙ c.loop-i.invariant.1 hs k b
+returns-then-is_preferred c =
+    λ hs k b.
+    let l = computed_length _ _ _ hs k in
+    let h : c.loop-place.place < c.args.order.count = omega (arith, c.min-place-end.ensures) in
+    ap Some c.found.ensures ∙ prefer_yes _ _ _ _ _ hs c.loop-place.place (omega (arith, h, l)) _ (rw (c.at.ensures, c.at-in-loop-place.ensures) (sym (hinted_at_lem _ _ _ hs k c.loop-place.place h))) _
+    (tried_is _ _ _ _ _ _ _ _ _ refl c.at-units.ensures c.try_reports.ensures) _ c.in-Some.is (sym c.is_preferred.ensures ∙ c.if-is_preferred.true)
+    ∙ c.loop-place.invariant hs k b
 
-pub loop-i-preserved : goal.loop-i-preserved
-loop-i-preserved c = (omega (arith, c.loop-i-test.true), λ hs k b. let l = computed_length _ _ _ hs k in prefer_no _ _ _ _ _ hs c.loop-i.i (omega (arith, c.if-order-place.false)) _ (rw (c.at8.ensures, c.at_float.ensures) (sym (hinted_at_lem _ _ _ hs k c.loop-i.i c.if-order-place.false))) _ (tried_is _ _ _ _ _ _ _ _ _ _ c.by_weight-limit.ensures c.wide.ensures c.at-units.ensures c.try_reports-t.ensures) (sym c.is_preferred.ensures ∙ c.if-is_preferred.false) ∙ c.loop-i.invariant.1 hs k b)
+pub loop-place-preserved : goal.loop-place-preserved
+loop-place-preserved c =
+    λ hs k b.
+    let l = computed_length _ _ _ hs k in
+    let h : c.loop-place.place < c.args.order.count = omega (arith, c.min-place-end.ensures) in
+    prefer_no _ _ _ _ _ hs c.loop-place.place (omega (arith, h, l)) _ (rw (c.at.ensures, c.at-in-loop-place.ensures) (sym (hinted_at_lem _ _ _ hs k c.loop-place.place h))) _
+    (tried_is _ _ _ _ _ _ _ _ _ refl c.at-units.ensures c.try_reports.ensures) _ c.in-Some.is (sym c.is_preferred.ensures ∙ c.if-is_preferred.false)
+    ∙ c.loop-place.invariant hs k b
 
 pub returns : goal.returns
-returns c = λ hs k b. c.none_yet-2.ensures ∙ prefer_end _ _ _ _ _ hs c.loop-i.i (omega (arith, c.loop-i-test.false)) ∙ c.loop-i.invariant.1 hs k b
+returns c =
+    λ hs k b.
+    let l = computed_length _ _ _ hs k in
+    prefer_end _ _ _ _ _ hs c.loop-place.place (omega (arith, l, b, c.min-place-end.ensures)) ∙ c.loop-place.invariant hs k b

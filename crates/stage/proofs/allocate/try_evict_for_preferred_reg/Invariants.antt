@@ -1,5 +1,5 @@
 -- The invariant: the search over the hinted candidates from place i on finds what the whole search finds. Assumes nothing.
-use Prim.Native.Nat.{◌-◌, ◌≤◌}
+use Prim.Native.Nat.{◌≤◌}
 use mathlib.Core.Path.{◌≡◌}
 use mathlib.Core.List.{List}
 use lib.ListN.{length, drop}
@@ -10,8 +10,5 @@ use Rattle.order.specs.OrderWalk.{Computed}
 use Rattle.stage.specs.AllocateWalk.{prefer_in}
 use Rattle.stage.proofs.allocate.try_evict_for_preferred_reg.Given as goal
 
-abbrev pub invariant-loop-i : goal.invariant-loop-i
-invariant-loop-i l = (l.i ≤ 65) × ((hs : List CandidateReg) → Computed l.order l.regs l.weights hs → length hs ≤ 65 → prefer_in (lent l.ends l.rests l.uses l.froms l.tos l.values) l.maps (held_in l.words) l.spills l.clear (drop l.i hs) ≡ prefer_in (lent l.ends l.rests l.uses l.froms l.tos l.values) l.maps (held_in l.words) l.spills l.clear hs)
-
-abbrev pub decreases-loop-i : goal.decreases-loop-i
-decreases-loop-i l = 65 - l.i
+abbrev pub invariant-loop-place : goal.invariant-loop-place
+invariant-loop-place l = (hs : List CandidateReg) → Computed l.fn.order l.regs l.weights hs → length hs ≤ 65 → prefer_in (lent l.ends l.rests l.uses l.froms l.tos l.values) l.maps (held_in l.words) l.spills l.clear (drop l.place hs) ≡ prefer_in (lent l.ends l.rests l.uses l.froms l.tos l.values) l.maps (held_in l.words) l.spills l.clear hs

@@ -8,6 +8,3 @@ use Rattle.table_words.proofs.ranges.ranges_refusal.Given as goal
 
 abbrev pub invariant-loop-i : goal.invariant-loop-i
 invariant-loop-i l = ranges_refusal 0 (segments_in l.froms l.tos []) ≡ ranges_refusal l.past (segments_from l.froms l.tos [] l.i (length l.froms - l.i))
-
-abbrev pub decreases-loop-i : goal.decreases-loop-i
-decreases-loop-i l = length l.froms - l.i

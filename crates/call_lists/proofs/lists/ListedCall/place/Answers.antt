@@ -1,25 +1,16 @@
+use mathlib.Core.Path.{refl, sym}
+use borrow.Author.Tests.{ne_eqb}
+use Rattle.std.proofs.lemmas.Result.{err_from_is_err_and}
 use Rattle.job.specs.Layout.{slices}
 use Rattle.run_loop.specs.Running.{lent_state}
+use Rattle.calls.proofs.DirectLaws.{some_number}
 use Rattle.call_lists.proofs.CallLaws.{placed_so}
 use Rattle.call_lists.proofs.lists.ListedCall.place.Goals as goal
 
-pub store_numbers-requires : goal.store_numbers-requires
-store_numbers-requires c = c.requires.1
-
-pub shape_of-ends : goal.shape_of-ends
-shape_of-ends c = c.ends-1.given
-
-pub shape_of-rests : goal.shape_of-rests
-shape_of-rests c = c.rests-1.given
-
-pub shape_of-queue : goal.shape_of-queue
-shape_of-queue c = c.queue-1.given
-
-pub shape_of-last : goal.shape_of-last
-shape_of-last c = c.last-1.given
-
-pub shape_of-out : goal.shape_of-out
-shape_of-out c = c.out-1.given
+pub returns-in_err-after : goal.returns-in_err-after
+returns-in_err-after c =
+    let p = err_from_is_err_and c.from_residual.result c.from_residual.ensures.1 in
+    rw (p.1, p.2) (placed_so _ (slices c.args.j64.now c.args.j32.now c.args.j16.now c.args.j8.now c.args.jf.now) (lent_state c.args.ends.now c.args.rests.now c.args.queue.now c.args.last.now) _ _ _ _ _ _ _ c.requires _ c.cut-v.ensures _ c.cut-reg.ensures _ c.cut-weight.ensures _ c.in_err-after.ensures 0 (sym (rw (ne_eqb _ _ (some_number c.in_err-after.field-0.0)))))
 
 pub returns : goal.returns
-returns c = record { n = _; e = 0; x = _; answered = placed_so _ (slices c.args.j64.now c.args.j32.now c.args.j16.now c.args.j8.now c.args.jf.now) (lent_state c.args.ends.now c.args.rests.now c.args.queue.now c.args.last.now) _ _ _ _ _ _ _ c.requires.0 _ c.cut16.ensures _ c.cut8-reg.ensures _ c.cut32.ensures _ c.assign-after.ensures _ c.reg_given.ensures; stored = c.store_numbers.ensures }
+returns c = placed_so _ (slices c.args.j64.now c.args.j32.now c.args.j16.now c.args.j8.now c.args.jf.now) (lent_state c.args.ends.now c.args.rests.now c.args.queue.now c.args.last.now) _ _ _ _ _ _ _ c.requires _ c.cut-v.ensures _ c.cut-reg.ensures _ c.cut-weight.ensures _ c.in_ok-after.ensures _ refl

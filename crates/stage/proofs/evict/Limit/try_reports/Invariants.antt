@@ -1,6 +1,5 @@
 -- The invariant: the walk over the reports still to come, from the cost and the holders so far, finds what the whole walk finds. Assumes nothing.
 use mathlib.Core.Path.{◌≡◌}
-use mathlib.Core.Bool.{false}
 use lib.ListN.{length}
 use Rattle.matrix.specs.Walk.{lent, remaining}
 use Rattle.record_words.specs.Words.{held_in}
@@ -9,7 +8,7 @@ use Rattle.stage.specs.AllocateWalk.{reports_on}
 use Rattle.stage.proofs.evict.Limit.try_reports.Given as goal
 
 abbrev pub invariant-loop-report : goal.invariant-loop-report
-invariant-loop-report l = (length l.t.holders ≡ 512) × (l.t.ruled_out ≡ false) × (try_below l.self (held_in l.words) l.spills (remaining (lent l.ends l.rests l.uses l.froms l.tos l.values) l.c) l.t.cost l.t.every_report l.t.holders ≡ tried_below l.self (held_in l.words) l.spills (reports_on (lent l.ends l.rests l.uses l.froms l.tos l.values) l.units))
+invariant-loop-report l = (length l.t.holders ≡ 512) × (try_below l.self (held_in l.words) l.spills (remaining (lent l.ends l.rests l.uses l.froms l.tos l.values) l.c) l.t.cost l.t.every_report l.t.holders ≡ tried_below l.self (held_in l.words) l.spills (reports_on (lent l.ends l.rests l.uses l.froms l.tos l.values) l.units))
 
 abbrev pub decreases-loop-report : goal.decreases-loop-report
 decreases-loop-report l = length (remaining (lent l.ends l.rests l.uses l.froms l.tos l.values) l.c)

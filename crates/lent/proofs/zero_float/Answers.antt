@@ -1,5 +1,0 @@
-use Rattle.lent.proofs.Laws.{all_filled}
-use Rattle.lent.proofs.zero_float.Goals as goal
-
-pub returns : goal.returns
-returns c = all_filled _ _ _ c.pad_float.ensures

@@ -1,4 +1,0 @@
-use Rattle.queue.proofs.enqueue.Goals as goal
-
-pub returns : goal.returns
-returns c = rw (c.set_word.ensures, c.encode.ensures.0)

@@ -1,2 +1,0 @@
-pub mod HeaderLaws
-pub mod NumberLaws
