@@ -22,8 +22,8 @@ use Rattle.allocator.specs.Run.{run}
 use Rattle.allocator.specs.Calls.{placing, evicting, running, unknown_number, named, bad_weight, refusal_of, accepted, or_refused, answer_of}
 use Rattle.run_loop.specs.Running.{ending_number}
 use Rattle.calls.specs.Calling.{refusal_number, value_number, sizes_of, Placed, Evicted, RunCalled}
-use Rattle.narrow.specs.Cut.{cut}
-use Rattle.call_lists.specs.Listed.{call_of, word_number, CallAnswered}
+use Rattle.call_lists.specs.declared.lists.ListedCall.TheVariants.{Place, Evict, Run}
+use Rattle.call_lists.specs.Listed.{call_in, word_number, CallAnswered}
 
 -- ---- what a refusal's number is
 
@@ -99,46 +99,31 @@ numbers_running j s l b n e x is nothing so = go (short_buffer stage_limits l) i
 
 -- ---- the three kinds
 
-module _ (header : JobHeader) (B : JobSlices) (S : StateBuffers) (rs : List Assignment) (S' : StateBuffers) (rs' : List Assignment) (kind number reg weight : ℕ) where
+module _ (header : JobHeader) (B : JobSlices) (S : StateBuffers) (rs : List Assignment) (S' : StateBuffers) (rs' : List Assignment) where
   pub placed_so :
-      kind ≡ 1
-      → (v : ℕ) → v ≡ cut 65535 number → (r : ℕ) → r ≡ cut 255 reg → (w : ℕ) → w ≡ cut 0xFFFF_FFFF weight
-      → (n : ℕ) → Placed header B v r w S rs S' rs' n
+      (v r w n : ℕ) → Placed header B v r w S rs S' rs' n
       → (x : ℕ) → x ≡ cond (eqb n 0) r 0
-      → CallAnswered header B (call_of (sizes_of B S) kind number reg weight) S rs S' rs' n 0 x
-  unfolding call_of
-  placed_so k v pv r pr w pw n p x px =
-      rw (eq-eqb _ _ k, ← pv, ← pr, ← pw)
-      (record {
+      → CallAnswered header B (call_in (sizes_of B S) (Place v r w)) S rs S' rs' n 0 x
+  placed_so v r w n p x px =
+      record {
         called = p.called;
         numbers =
             λ j s t reach job head st.
             (word_placing j s (sizes_of B S) v r w, px ∙ value_placing j s (sizes_of B S) v r w n (p.called.reached j s t reach job head st).0);
-      })
+      }
 
-  pub evicted_so :
-      kind ≡ 2
-      → (v : ℕ) → v ≡ cut 65535 number
-      → (n x : ℕ) → Evicted header B v S rs S' rs' n x
-      → CallAnswered header B (call_of (sizes_of B S) kind number reg weight) S rs S' rs' n 0 x
-  unfolding call_of
-  evicted_so l v pv n x p =
-      rw (ne_eqb kind 1 (λ k. let q = sym k ∙ l in absurd (omega (arith, q))), eq-eqb _ _ l, ← pv)
-      (record {
+  pub evicted_so : (v n x : ℕ) → Evicted header B v S rs S' rs' n x → CallAnswered header B (call_in (sizes_of B S) (Evict v)) S rs S' rs' n 0 x
+  evicted_so v n x p =
+      record {
         called = p.called;
         numbers = λ j s t reach job head st. (word_evicting j s (sizes_of B S) v, p.taken_away j s t reach job head st);
-      })
+      }
 
-  pub ran_so :
-      (kind ≡ 1 → ⊥) → (kind ≡ 2 → ⊥)
-      → (n e x : ℕ) → RunCalled B number S rs S' rs' n e x
-      → CallAnswered header B (call_of (sizes_of B S) kind number reg weight) S rs S' rs' n e x
-  unfolding call_of
-  ran_so k l n e x p =
-      rw (ne_eqb _ _ k, ne_eqb _ _ l)
-      (record {
+  pub ran_so : (b n e x : ℕ) → RunCalled B b S rs S' rs' n e x → CallAnswered header B (call_in (sizes_of B S) (Run b)) S rs S' rs' n e x
+  ran_so b n e x p =
+      record {
         called = p.called header;
         numbers =
             λ j s t reach job head st.
-            numbers_running j s (sizes_of B S) number n e x ((p.called header).reached j s t reach job head st).0 p.nothing (p.ended_so j s t reach job st);
-      })
+            numbers_running j s (sizes_of B S) b n e x ((p.called header).reached j s t reach job head st).0 p.nothing (p.ended_so j s t reach job st);
+      }

@@ -2,15 +2,18 @@
 use Prim.Native.Nat.{ℕ, suc, ◌+◌, ◌/◌, ◌≤◌, ◌<◌}
 use native.Mathlib.Omega.{arith}
 use mathlib.Core.Path.{◌≡◌, refl, sym, ap, ◌∙◌, subst}
-use mathlib.Core.Logic.{inl}
+use mathlib.Core.Logic.{inl, ⊎_elim}
 use mathlib.Core.List.{List, [], ◌∷◌}
-use mathlib.Core.Bool.{Bool, true, false, cond}
-use lib.Dec.{eqb}
+use mathlib.Core.Bool.{Bool, true, false, cond, ◌||◌}
+use lib.Dec.{T, leb, eqb, leb→le, le→leb, eqb→eq}
 use lib.Ieee.{binary32, of_bits}
 use lib.ListN.{length, get_or, set, drop, length-drop}
 use lib.Seq.{sets, drop-cons}
-use borrow.Author.Tests.{lt-leb, le-leb, lt-ltb, le-ltb}
+use borrow.Author.Tests.{lt-ltb, le-ltb}
+use Rattle.std.specs.Prelude.{Option, Some, None}
+use Rattle.std.proofs.lemmas.Option.{none-some}
 use Rattle.reg_matrix.specs.Lists.{concat_map, foldl}
+use Rattle.reg_matrix.proofs.Tests.{both, both_in, either, or_left, or_right, same_test, eqb_in, lt_or_le}
 use Rattle.job.specs.Model.{Job}
 use Rattle.job.specs.Layout.{JobSlices, header_of, lists_in}
 use Rattle.job.specs.declared.JobHeader.{JobHeader}
@@ -24,7 +27,9 @@ use Rattle.moves.specs.Standing.{JobStands}
 use Rattle.calls.specs.Calling.{refusal_number, sizes_of, StateStands}
 use Rattle.calls.specs.Trace.{lent_to, WholeCall, Trace}
 use Rattle.narrow.specs.Cut.{cut}
-use Rattle.call_lists.specs.Listed.{call_of, is_kind, has_call, calls_in, word_number, numbers_of, CallAnswered, CallStored, ListDone, ListCarriedOut}
+use Rattle.call_lists.specs.declared.lists.ListedCall.{ListedCall}
+use Rattle.call_lists.specs.declared.lists.ListedCall.TheVariants.{Place, Evict, Run}
+use Rattle.call_lists.specs.Listed.{call_of, is_kind, calls_in, listed_by, listed, call_in, word_number, numbers_of, CallAnswered, CallStored, ListDone, ListCarriedOut}
 
 -- ---- the words of one call
 
@@ -43,77 +48,104 @@ module _ (l : List ℕ) (i : ℕ) where
       (drop-cons l (suc (suc i)) 0 (omega (arith, h))
       ∙ ap (λ (m : List ℕ). get_or l (suc (suc i)) 0 ∷ m) (drop-cons l (suc (suc (suc i))) 0 (omega (arith, h))))))
 
-few_words : (m : List ℕ) → length m < 4 → has_call m ≡ false
-unfolding has_call
+not_both : false ≡ true → ⊥
+not_both q = subst (λ (b : Bool). elim b as (λ x. Type 0) [ true ↦ ⊥ | false ↦ ℕ ]) q 0
+
+-- a kind is one of three numbers
+kind_is : (k : ℕ) → is_kind k ≡ (eqb k 1 || (eqb k 2 || eqb k 3))
+kind_is k = same_test (is_kind k) (eqb k 1 || (eqb k 2 || eqb k 3)) one in_range
+  where
+    one : T (is_kind k) → T (eqb k 1 || (eqb k 2 || eqb k 3))
+    one t = let p = both (leb 1 k) (leb k 3) t in go (leb→le 1 k p.0) (leb→le k 3 p.1)
+      where
+        go : 1 ≤ k → k ≤ 3 → T (eqb k 1 || (eqb k 2 || eqb k 3))
+        go l m =
+            ⊎_elim (λ (h : k < 2). let q : k ≡ 1 = omega arith in or_left (eqb k 1) (eqb k 2 || eqb k 3) (eqb_in q))
+            (λ (h : 2 ≤ k). or_right (eqb k 1) (eqb k 2 || eqb k 3)
+            (⊎_elim (λ (g : k < 3). let q : k ≡ 2 = omega arith in or_left (eqb k 2) (eqb k 3) (eqb_in q))
+            (λ (g : 3 ≤ k). let q : k ≡ 3 = omega arith in or_right (eqb k 2) (eqb k 3) (eqb_in q))
+            (lt_or_le k 3)))
+            (lt_or_le k 2)
+
+    in_range : T (eqb k 1 || (eqb k 2 || eqb k 3)) → T (is_kind k)
+    in_range t =
+        ⊎_elim (λ (h : T (eqb k 1)). let q = eqb→eq k 1 h in both_in (leb 1 k) (leb k 3) (le→leb 1 k (omega (arith, q))) (le→leb k 3 (omega (arith, q))))
+        (λ (h : T (eqb k 2 || eqb k 3)).
+        ⊎_elim (λ (g : T (eqb k 2)). let q = eqb→eq k 2 g in both_in (leb 1 k) (leb k 3) (le→leb 1 k (omega (arith, q))) (le→leb k 3 (omega (arith, q))))
+        (λ (g : T (eqb k 3)). let q = eqb→eq k 3 g in both_in (leb 1 k) (leb k 3) (le→leb 1 k (omega (arith, q))) (le→leb k 3 (omega (arith, q))))
+        (either (eqb k 2) (eqb k 3) h))
+        (either (eqb k 1) (eqb k 2 || eqb k 3) t)
+
+-- ---- the call at the front of a list, and the calls behind it
+
+abbrev calls_by : List ℕ → Option ListedCall → List Call → List Call
+calls_by L None cs = []
+calls_by L (Some c) cs = call_in L c ∷ cs
+
+by_kind : (L : List ℕ) (k n r w : ℕ) (cs : List Call) → cond (is_kind k) (call_of L k n r w ∷ cs) [] ≡ calls_by L (listed_by k n r w) cs
+unfolding call_of listed_by
+by_kind L k n r w cs = rw kind_is (go (eqb k 1) (eqb k 2) (eqb k 3))
+  where
+    go :
+        (a b c : Bool)
+        → cond (a || (b || c))
+        (cond a (placing L (cut 65535 n) (cut 255 r) (of_bits binary32 (cut 0xFFFF_FFFF w))) (cond b (evicting L (cut 65535 n)) (running L n)) ∷ cs) []
+        ≡ calls_by L
+        (cond a (Some (Place (cut 65535 n) (cut 255 r) (cut 0xFFFF_FFFF w))) (cond b (Some (Evict (cut 65535 n))) (cond c (Some (Run n)) None)))
+        cs
+    go true b c = refl
+    go false true c = refl
+    go false false true = refl
+    go false false false = refl
+
+few_words : (m : List ℕ) → length m < 4 → listed m ≡ None
+unfolding listed
 few_words [] h = refl
 few_words (a ∷ []) h = refl
 few_words (a ∷ b ∷ []) h = refl
 few_words (a ∷ b ∷ c ∷ []) h = refl
 few_words (a ∷ b ∷ c ∷ d ∷ m) h = absurd (omega (arith, h))
 
-not_both : false ≡ true → ⊥
-not_both q = subst (λ (b : Bool). elim b as (λ x. Type 0) [ true ↦ ⊥ | false ↦ ℕ ]) q 0
+enough_words : (m : List ℕ) (x : ListedCall) → listed m ≡ Some x → 4 ≤ length m
+unfolding listed
+enough_words [] x e = absurd (none-some x e)
+enough_words (a ∷ []) x e = absurd (none-some x e)
+enough_words (a ∷ b ∷ []) x e = absurd (none-some x e)
+enough_words (a ∷ b ∷ c ∷ []) x e = absurd (none-some x e)
+enough_words (a ∷ b ∷ c ∷ d ∷ m) x e = omega arith
 
-enough_words : (m : List ℕ) → has_call m ≡ true → 4 ≤ length m
-unfolding has_call
-enough_words [] e = absurd (not_both e)
-enough_words (a ∷ []) e = absurd (not_both e)
-enough_words (a ∷ b ∷ []) e = absurd (not_both e)
-enough_words (a ∷ b ∷ c ∷ []) e = absurd (not_both e)
-enough_words (a ∷ b ∷ c ∷ d ∷ m) e = omega arith
-
-module _ (l : List ℕ) (i : ℕ) where
-  pub has_short : length l < i + 4 → false ≡ has_call (drop i l)
-  has_short h = sym (few_words (drop i l) (let e = length-drop i l in omega (arith, e, h)))
-
-  pub has_kind : i + 4 ≤ length l → has_call (drop i l) ≡ is_kind (get_or l i 0)
-  unfolding has_call
-  has_kind h = rw (four_words l i h) refl
-
-  -- by the two tests of a kind
-  pub has_none : i + 4 ≤ length l → get_or l i 0 < 1 → false ≡ has_call (drop i l)
-  has_none h k = sym (has_kind h ∙ rw (lt-leb _ _ k) refl)
-
-  pub has_other : i + 4 ≤ length l → 1 ≤ get_or l i 0 → 3 < get_or l i 0 → false ≡ has_call (drop i l)
-  has_other h k m = sym (has_kind h ∙ rw (le-leb _ _ k, lt-leb _ _ m) refl)
-
-  pub has_one : i + 4 ≤ length l → 1 ≤ get_or l i 0 → get_or l i 0 ≤ 3 → true ≡ has_call (drop i l)
-  has_one h k m = sym (has_kind h ∙ rw (le-leb _ _ k, le-leb _ _ m) refl)
-
-  pub has_room : has_call (drop i l) ≡ true → i + 4 ≤ length l
-  has_room e = let a = enough_words (drop i l) e in let b = length-drop i l in omega (arith, a, b)
-
--- ---- the calls
-
-calls_none : (L m : List ℕ) → has_call m ≡ false → calls_in L m ≡ []
-unfolding has_call calls_in
+calls_none : (L m : List ℕ) → listed m ≡ None → calls_in L m ≡ []
+unfolding listed calls_in
 calls_none L [] e = refl
 calls_none L (a ∷ []) e = refl
 calls_none L (a ∷ b ∷ []) e = refl
 calls_none L (a ∷ b ∷ c ∷ []) e = refl
-calls_none L (a ∷ b ∷ c ∷ d ∷ m) e = rw e refl
+calls_none L (a ∷ b ∷ c ∷ d ∷ m) e = by_kind L a b c d (calls_in L m) ∙ ap (λ (o : Option ListedCall). calls_by L o (calls_in L m)) e
 
--- the call whose words stand from i on
-abbrev pub call_at : List ℕ → List ℕ → ℕ → Call
-call_at L l i = call_of L (get_or l i 0) (get_or l (i + 1) 0) (get_or l (i + 2) 0) (get_or l (i + 3) 0)
+module _ (l : List ℕ) (i : ℕ) where
+  pub listed_short : length l < i + 4 → None ≡ listed (drop i l)
+  listed_short h = sym (few_words (drop i l) (let e = length-drop i l in omega (arith, e, h)))
 
-calls_next : (L l : List ℕ) (i : ℕ) → has_call (drop i l) ≡ true → calls_in L (drop i l) ≡ call_at L l i ∷ calls_in L (drop (i + 4) l)
-unfolding calls_in
-calls_next L l i e =
-    let h = has_room l i e in
-    let k : is_kind (get_or l i 0) ≡ true = sym (has_kind l i h) ∙ e in
-    ap (calls_in L) (four_words l i h) ∙ rw k refl
+  -- by the four words
+  pub listed_at : i + 4 ≤ length l → listed_by (get_or l i 0) (get_or l (i + 1) 0) (get_or l (i + 2) 0) (get_or l (i + 3) 0) ≡ listed (drop i l)
+  unfolding listed
+  listed_at h = rw (four_words l i h) refl
 
-lent_to_lem : (L : List ℕ) (k n r w : ℕ) → lent_to (call_of L k n r w) ≡ L
-unfolding call_of
-lent_to_lem L k n r w = go (eqb k 1) (eqb k 2)
-  where
-    go :
-        (a b : Bool)
-        → lent_to (cond a (placing L (cut 65535 n) (cut 255 r) (of_bits binary32 (cut 0xFFFF_FFFF w))) (cond b (evicting L (cut 65535 n)) (running L n))) ≡ L
-    go true b = refl
-    go false true = refl
-    go false false = refl
+  module _ (c : ListedCall) (e : listed (drop i l) ≡ Some c) where
+    pub has_room : i + 4 ≤ length l
+    has_room = let a = enough_words (drop i l) c e in let b = length-drop i l in omega (arith, a, b)
+
+    calls_next : (L : List ℕ) → calls_in L (drop i l) ≡ call_in L c ∷ calls_in L (drop (i + 4) l)
+    unfolding calls_in
+    calls_next L =
+        ap (calls_in L) (four_words l i has_room)
+        ∙ by_kind L (get_or l i 0) (get_or l (i + 1) 0) (get_or l (i + 2) 0) (get_or l (i + 3) 0) (calls_in L (drop (i + 4) l))
+        ∙ ap (λ (o : Option ListedCall). calls_by L o (calls_in L (drop (i + 4) l))) (listed_at has_room ∙ e)
+
+lent_to_lem : (L : List ℕ) (c : ListedCall) → lent_to (call_in L c) ≡ L
+lent_to_lem L (Place v r w) = refl
+lent_to_lem L (Evict v) = refl
+lent_to_lem L (Run b) = refl
 
 -- ---- the loop
 
@@ -155,7 +187,7 @@ module _ (header : JobHeader) (B : JobSlices) (list : List ℕ) (S : StateBuffer
 
   module _ (from to calls : ℕ) (S₁ : StateBuffers) (rs₁ : List Assignment) (A₁ : List ℕ) (so : ListTo header B list from to calls S rs A S₁ rs₁ A₁) where
     -- the end: no call is left
-    pub list_end : false ≡ has_call (drop from list) → ListDone header B list S rs A S₁ rs₁ A₁ calls
+    pub list_end : None ≡ listed (drop from list) → ListDone header B list S rs A S₁ rs₁ A₁ calls
     unfolding Trace foldl answers concat_map
     list_end e =
         let z = calls_none (sizes_of B S) (drop from list) (sym e) in
@@ -170,27 +202,27 @@ module _ (header : JobHeader) (B : JobSlices) (list : List ℕ) (S : StateBuffer
               );
         }
 
-    module _ (has : true ≡ has_call (drop from list))
+    module _ (c : ListedCall) (has : listed (drop from list) ≡ Some c)
         (pe : length S₁.ends ≡ length S.ends) (pr : length S₁.rests ≡ length S.rests)
         (pq : length S₁.queue ≡ length S.queue) (pl : length S₁.last ≡ length S.last)
-        (S₂ : StateBuffers) (rs₂ : List Assignment) (A₂ : List ℕ) (k : CallStored header B (call_at (sizes_of B S₁) list from) S₁ rs₁ S₂ rs₂ A₁ to A₂) where
+        (S₂ : StateBuffers) (rs₂ : List Assignment) (A₂ : List ℕ) (k : CallStored header B (call_in (sizes_of B S₁) c) S₁ rs₁ S₂ rs₂ A₁ to A₂) where
       -- what is lent keeps its sizes
       same : sizes_of B S₁ ≡ sizes_of B S
       same = rw (pe, pr, pq, pl) refl
 
       abbrev made : Call
-      made = call_at (sizes_of B S) list from
+      made = call_in (sizes_of B S) c
 
       more : calls_in (sizes_of B S) (drop from list) ≡ made ∷ calls_in (sizes_of B S) (drop (from + 4) list)
-      more = calls_next (sizes_of B S) list from (sym has)
+      more = calls_next list from c has (sizes_of B S)
 
       answered : CallAnswered header B made S₁ rs₁ S₂ rs₂ k.n k.e k.x
-      answered = subst (λ (L : List ℕ). CallAnswered header B (call_at L list from) S₁ rs₁ S₂ rs₂ k.n k.e k.x) same k.answered
+      answered = subst (λ (L : List ℕ). CallAnswered header B (call_in L c) S₁ rs₁ S₂ rs₂ k.n k.e k.x) same k.answered
 
       whole_call : WholeCall header B made S₁ rs₁ S₂ rs₂
       whole_call =
           record {
-            sizes = lent_to_lem (sizes_of B S) (get_or list from 0) (get_or list (from + 1) 0) (get_or list (from + 2) 0) (get_or list (from + 3) 0) ∙ sym same;
+            sizes = lent_to_lem (sizes_of B S) c ∙ sym same;
             answer = k.n;
             called = answered.called;
           }

@@ -1,6 +1,6 @@
 -- Lists of calls in lent numbers: which calls the words are, and what carrying them out one after another leaves and answers (document 01, "Order",
 -- "Holding"). Assumes nothing.
-use Rattle.std.specs.Prelude.{ℕ, ◌/◌, ◌≡◌, List, [], ◌∷◌, Bool, true, false, cond, ◌&&◌, ltb, leb, eqb, length, Result, Ok, Err}
+use Rattle.std.specs.Prelude.{ℕ, ◌/◌, ◌≡◌, List, [], ◌∷◌, Bool, true, false, cond, ◌&&◌, ltb, leb, eqb, length, Option, Some, None, Result, Ok, Err}
 use Rattle.std.specs.Float.{binary32}
 use Rattle.std.specs.Float.Ieee.{of_bits}
 use Rattle.std.proofs.lemmas.List.Edits.{sets}
@@ -19,6 +19,8 @@ use Rattle.narrow.specs.Cut.{cut}
 use Rattle.run_loop.specs.Running.{ending_number}
 use Rattle.calls.specs.Calling.{refusal_number, value_number, sizes_of, StateStands, Called}
 use Rattle.calls.specs.Trace.{Trace}
+use Rattle.call_lists.specs.declared.lists.ListedCall.{ListedCall}
+use Rattle.call_lists.specs.declared.lists.ListedCall.TheVariants.{Place, Evict, Run}
 
 -- ---- a call in four words: its kind, a number or a budget, a register, the bits of a weight. What a kind does not need is not read.
 
@@ -33,19 +35,32 @@ is_kind k = leb 1 k && leb k 3
 
 -- ---- the calls of a list, which ends where fewer than four words are left, or at a word that is no kind
 
-unfoldable pub has_call : List ℕ → Bool
-has_call [] = false
-has_call (k ∷ []) = false
-has_call (k ∷ n ∷ []) = false
-has_call (k ∷ n ∷ r ∷ []) = false
-has_call (k ∷ n ∷ r ∷ w ∷ more) = is_kind k
-
 unfoldable pub calls_in : List ℕ → List ℕ → List Call
 calls_in lent [] = []
 calls_in lent (k ∷ []) = []
 calls_in lent (k ∷ n ∷ []) = []
 calls_in lent (k ∷ n ∷ r ∷ []) = []
 calls_in lent (k ∷ n ∷ r ∷ w ∷ more) = cond (is_kind k) (call_of lent k n r w ∷ calls_in lent more) []
+
+-- ---- what the code reads: the call at the front of a list, with its numbers cut to what they count
+
+unfoldable pub listed_by : ℕ → ℕ → ℕ → ℕ → Option ListedCall
+listed_by k n r w =
+    cond (eqb k 1) (Some (Place (cut 65535 n) (cut 255 r) (cut 0xFFFF_FFFF w)))
+    (cond (eqb k 2) (Some (Evict (cut 65535 n))) (cond (eqb k 3) (Some (Run n)) None))
+
+unfoldable pub listed : List ℕ → Option ListedCall
+listed [] = None
+listed (k ∷ []) = None
+listed (k ∷ n ∷ []) = None
+listed (k ∷ n ∷ r ∷ []) = None
+listed (k ∷ n ∷ r ∷ w ∷ more) = listed_by k n r w
+
+-- the rules' call that it is, with these sizes lent
+abbrev pub call_in : List ℕ → ListedCall → Call
+call_in lent (Place v r bits) = placing lent v r (of_bits binary32 bits)
+call_in lent (Evict v) = evicting lent v
+call_in lent (Run budget) = running lent budget
 
 -- ---- an answer in three numbers
 

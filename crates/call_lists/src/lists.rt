@@ -1,22 +1,24 @@
 // Lists of calls in lent numbers, carried out one after another: placements, evictions and runs as `Context::assign`, `evict` and `Allocator::run`
 // (`allocator/mod.rs`) make them. Document 01, "Order" and "Holding".
-ghost use Rattle.std.specs.Prelude.{◌≡◌, [], ◌∷◌, ◌+◌, ◌<◌, get_or, drop};
+ghost use Rattle.std.specs.Prelude.{◌≡◌, [], ◌∷◌, ◌+◌, ◌<◌, drop};
 ghost use Rattle.std.proofs.lemmas.List.Edits.{sets};
-ghost use Rattle.job.specs.Layout.{slices};
-ghost use Rattle.run_loop.specs.Running.{lent_state};
+ghost use Rattle.table_words.specs.Buffers.{SameState};
+ghost use Rattle.job_parts.specs.Lent.{slices_of};
+ghost use Rattle.run_loop.specs.Running.{lent_state, state_in};
 ghost use Rattle.reg_matrix.specs.Refused.{number_in};
 ghost use Rattle.calls.specs.Calling.{afterwards, first_in, second_in, sizes_of};
-ghost use Rattle.narrow.specs.Cut.{cut};
-ghost use Rattle.call_lists.specs.Listed.{call_of, has_call, records_left, word_in, value_in, CallAnswered, CallStored, ListDone, ListCarriedOut};
+ghost use Rattle.call_lists.specs.Listed.{call_in, listed_by, listed, records_left, word_in, value_in, CallAnswered, CallStored, ListDone, ListCarriedOut};
 
 use allocator::Assignment;
 use calls::direct::{assign, evict};
 use calls::runs::run;
 use job::JobHeader;
+use job_parts::lent_job::LentJob;
 use lent::{at, put};
 use narrow::Narrow;
 use reg_matrix::Refusal;
 use run_loop::ending_number;
+use table_words::buffers::LentState;
 
 // Stores the three numbers that a call answered, from place `to` on.
 fn store_numbers(out: &mut [u64], to: usize, refusal: u64, ending: u64, value: u64)
@@ -28,216 +30,98 @@ fn store_numbers(out: &mut [u64], to: usize, refusal: u64, ending: u64, value: u
     put(out, to + 2, value);
 }
 
-// A call of a list, by its four words: its kind, a number or a budget, a register, and the bits of a weight. Its answer goes into the answers from
-// place `to` on.
-#[derive(Clone, Copy)]
-struct ListedCall {
-    header: JobHeader,
-    kind: u64,
-    number: u64,
-    reg: u64,
-    weight: u64,
-    to: usize,
+// A call of a list: the placement of a virtual register in a register, with the binary32 bits of a weight; an eviction; or a run with a budget.
+#[derive(Clone, Copy, PartialEq, Eq, Debug)]
+pub enum ListedCall {
+    Place(u16, u8, u32),
+    Evict(u16),
+    Run(u64),
+}
+
+// The call of these four words, if the first is a kind.
+#[tactic(auto, unfolding(crate::specs::Listed::listed_by))]
+fn listed_by(kind: u64, number: u64, reg: u64, weight: u64) -> Option<ListedCall>
+    ensures { result ≡ listed_by kind number reg weight }
+{
+    match kind {
+        1 => Some(ListedCall::Place(u16::cut(number), u8::cut(reg), u32::cut(weight))),
+        2 => Some(ListedCall::Evict(u16::cut(number))),
+        3 => Some(ListedCall::Run(number)),
+        _ => None,
+    }
+}
+
+// The call whose words stand from place `from` on, if the list goes on there.
+fn call_at(list: &[u64], from: usize) -> Option<ListedCall>
+    ensures { result ≡ listed (drop from list.now) }
+{
+    if list.len() < 4 || list.len() - 4 < from {
+        return None;
+    }
+    listed_by(
+        at(list, from),
+        at(list, from + 1),
+        at(list, from + 2),
+        at(list, from + 3),
+    )
 }
 
 impl ListedCall {
-    // A placement: the records afterwards, 0 in the place of a word, and the register.
-    fn place(
-        self,
-        all: [Assignment; 512],
-        j64: &[u64],
-        j32: &[u32],
-        j16: &[u16],
-        j8: &[u8],
-        jf: &[f32],
-        ends: &mut [u64],
-        rests: &mut [u64],
-        queue: &mut [u64],
-        last: &mut [u8],
-    ) -> Result<([Assignment; 512], u64, u64), Refusal>
-        requires { self.kind ≡ 1 }
-        ensures { CallAnswered self.header (slices j64.now j32.now j16.now j8.now jf.now) (call_of (sizes_of (slices j64.now j32.now j16.now j8.now jf.now) (lent_state ends.old rests.old queue.old last.old)) self.kind self.number self.reg self.weight) (lent_state ends.old rests.old queue.old last.old) all (lent_state ends.new rests.new queue.new last.new) (records_left all result) (number_in result) (word_in result) (value_in result) }
-    {
-        let v = u16::cut(self.number);
-        let reg = u8::cut(self.reg);
-        let weight = u32::cut(self.weight);
-        let after = assign(
-            all,
-            self.header,
-            v,
-            reg,
-            weight,
-            j64,
-            j32,
-            j16,
-            j8,
-            jf,
-            ends,
-            rests,
-            queue,
-            last,
-        )?;
-        Ok((after, 0, reg as u64))
-    }
-
-    // An eviction: the records afterwards, 0 in the place of a word, and the register taken away.
-    fn evict(
-        self,
-        all: [Assignment; 512],
-        j64: &[u64],
-        j32: &[u32],
-        j16: &[u16],
-        j8: &[u8],
-        jf: &[f32],
-        ends: &mut [u64],
-        rests: &mut [u64],
-        queue: &mut [u64],
-        last: &mut [u8],
-    ) -> Result<([Assignment; 512], u64, u64), Refusal>
-        requires { self.kind ≡ 2 }
-        ensures { CallAnswered self.header (slices j64.now j32.now j16.now j8.now jf.now) (call_of (sizes_of (slices j64.now j32.now j16.now j8.now jf.now) (lent_state ends.old rests.old queue.old last.old)) self.kind self.number self.reg self.weight) (lent_state ends.old rests.old queue.old last.old) all (lent_state ends.new rests.new queue.new last.new) (records_left all result) (number_in result) (word_in result) (value_in result) }
-    {
-        let v = u16::cut(self.number);
-        let (after, reg) = evict(
-            all,
-            self.header,
-            v,
-            j64,
-            j32,
-            j16,
-            j8,
-            jf,
-            ends,
-            rests,
-            queue,
-            last,
-        )?;
-        Ok((after, 0, reg as u64))
-    }
-
-    // A run, which any other kind stands for: the records afterwards, the number of its word, and the dequeues.
-    fn run(
-        self,
-        all: [Assignment; 512],
-        j64: &[u64],
-        j32: &[u32],
-        j16: &[u16],
-        j8: &[u8],
-        jf: &[f32],
-        ends: &mut [u64],
-        rests: &mut [u64],
-        queue: &mut [u64],
-        last: &mut [u8],
-    ) -> Result<([Assignment; 512], u64, u64), Refusal>
-        requires { (self.kind ≡ 1 → ⊥) × (self.kind ≡ 2 → ⊥) }
-        ensures { CallAnswered self.header (slices j64.now j32.now j16.now j8.now jf.now) (call_of (sizes_of (slices j64.now j32.now j16.now j8.now jf.now) (lent_state ends.old rests.old queue.old last.old)) self.kind self.number self.reg self.weight) (lent_state ends.old rests.old queue.old last.old) all (lent_state ends.new rests.new queue.new last.new) (records_left all result) (number_in result) (word_in result) (value_in result) }
-    {
-        let (after, end) = run(
-            all,
-            self.number,
-            j64,
-            j32,
-            j16,
-            j8,
-            jf,
-            ends,
-            rests,
-            queue,
-            last,
-        )?;
-        Ok((after, ending_number(end.ending), end.dequeues))
-    }
-
-    // Makes the call by its kind.
+    // Makes the call: the records afterwards, the number of a run's word or 0, and the register given or taken away, or the dequeues.
     fn make(
         self,
         all: [Assignment; 512],
-        j64: &[u64],
-        j32: &[u32],
-        j16: &[u16],
-        j8: &[u8],
-        jf: &[f32],
-        ends: &mut [u64],
-        rests: &mut [u64],
-        queue: &mut [u64],
+        header: JobHeader,
+        job: LentJob<'_>,
+        state: &mut LentState<'_>,
         last: &mut [u8],
     ) -> Result<([Assignment; 512], u64, u64), Refusal>
-        ensures { CallAnswered self.header (slices j64.now j32.now j16.now j8.now jf.now) (call_of (sizes_of (slices j64.now j32.now j16.now j8.now jf.now) (lent_state ends.old rests.old queue.old last.old)) self.kind self.number self.reg self.weight) (lent_state ends.old rests.old queue.old last.old) all (lent_state ends.new rests.new queue.new last.new) (records_left all result) (number_in result) (word_in result) (value_in result) }
+        ensures same { SameState state.old state.new }
+        ensures answered { CallAnswered header (slices_of job.entry) (call_in (sizes_of (slices_of job.entry) (state_in state.old last.old)) self) (state_in state.old last.old) all (state_in state.new last.new) (records_left all result) (number_in result) (word_in result) (value_in result) }
     {
-        if self.kind == 1 {
-            return self.place(all, j64, j32, j16, j8, jf, ends, rests, queue, last);
+        match self {
+            ListedCall::Place(v, reg, weight) => {
+                let after = assign(all, header, v, reg, weight, job, state, last)?;
+                Ok((after, 0, reg as u64))
+            }
+            ListedCall::Evict(v) => {
+                let (after, reg) = evict(all, header, v, job, state, last)?;
+                Ok((after, 0, reg as u64))
+            }
+            ListedCall::Run(budget) => {
+                let (after, end) = run(all, budget, job, state, last)?;
+                Ok((after, ending_number(end.ending), end.dequeues))
+            }
         }
-        if self.kind == 2 {
-            return self.evict(all, j64, j32, j16, j8, jf, ends, rests, queue, last);
-        }
-        self.run(all, j64, j32, j16, j8, jf, ends, rests, queue, last)
     }
 
-    // Makes the call and stores its answer. The records afterwards.
+    // Makes the call and stores its answer from place `to` on. The records afterwards.
     fn carry_out(
         self,
         all: [Assignment; 512],
-        j64: &[u64],
-        j32: &[u32],
-        j16: &[u16],
-        j8: &[u8],
-        jf: &[f32],
-        ends: &mut [u64],
-        rests: &mut [u64],
-        queue: &mut [u64],
+        header: JobHeader,
+        job: LentJob<'_>,
+        state: &mut LentState<'_>,
         last: &mut [u8],
         out: &mut [u64],
+        to: usize,
     ) -> [Assignment; 512]
-        requires { self.to + 2 < 0x1_0000_0000_0000_0000 }
-        ensures { CallStored self.header (slices j64.now j32.now j16.now j8.now jf.now) (call_of (sizes_of (slices j64.now j32.now j16.now j8.now jf.now) (lent_state ends.old rests.old queue.old last.old)) self.kind self.number self.reg self.weight) (lent_state ends.old rests.old queue.old last.old) all (lent_state ends.new rests.new queue.new last.new) result out.old self.to out.new }
+        requires { to + 2 < 0x1_0000_0000_0000_0000 }
+        ensures same { SameState state.old state.new }
+        ensures stored { CallStored header (slices_of job.entry) (call_in (sizes_of (slices_of job.entry) (state_in state.old last.old)) self) (state_in state.old last.old) all (state_in state.new last.new) result out.old to out.new }
     {
-        match self.make(all, j64, j32, j16, j8, jf, ends, rests, queue, last) {
+        match self.make(all, header, job, state, last) {
             Ok(done) => {
-                store_numbers(out, self.to, 0, done.1, done.2);
+                store_numbers(out, to, 0, done.1, done.2);
                 // tried, and not covered by the check: the array given back straight from the pattern
                 let after = done.0;
                 after
             }
             Err(refusal) => {
-                store_numbers(out, self.to, refusal.number(), 0, 0);
+                store_numbers(out, to, refusal.number(), 0, 0);
                 all
             }
         }
-    }
-}
-
-// Whether four words of a call stand from place `from` on.
-fn has_call(list: &[u64], from: usize) -> bool
-    ensures { result ≡ has_call (drop from list.now) }
-{
-    if list.len() < 4 {
-        return false;
-    }
-    if list.len() - 4 < from {
-        return false;
-    }
-    let kind = at(list, from);
-    if kind < 1 {
-        return false;
-    }
-    if 3 < kind {
-        return false;
-    }
-    true
-}
-
-// The call whose words stand from place `from` on.
-fn call_at(header: JobHeader, list: &[u64], from: usize, to: usize) -> ListedCall
-    requires { from + 3 < 0x1_0000_0000_0000_0000 }
-    ensures { result ≡ record { header = header; kind = get_or list.now from 0; number = get_or list.now (from + 1) 0; reg = get_or list.now (from + 2) 0; weight = get_or list.now (from + 3) 0; to = to } }
-{
-    ListedCall {
-        header,
-        kind: at(list, from),
-        number: at(list, from + 1),
-        reg: at(list, from + 2),
-        weight: at(list, from + 3),
-        to,
     }
 }
 
@@ -246,28 +130,25 @@ fn carry_out_calls(
     records: [Assignment; 512],
     header: JobHeader,
     list: &[u64],
-    j64: &[u64],
-    j32: &[u32],
-    j16: &[u16],
-    j8: &[u8],
-    jf: &[f32],
+    job: LentJob<'_>,
     ends: &mut [u64],
     rests: &mut [u64],
     queue: &mut [u64],
     last: &mut [u8],
     out: &mut [u64],
 ) -> ([Assignment; 512], u64)
-    ensures { ListDone header (slices j64.now j32.now j16.now j8.now jf.now) list.now (lent_state ends.old rests.old queue.old last.old) records out.old (lent_state ends.new rests.new queue.new last.new) result.0 out.new result.1 }
+    ensures { ListDone header (slices_of job.entry) list.now (lent_state ends.old rests.old queue.old last.old) records out.old (lent_state ends.new rests.new queue.new last.new) result.0 out.new result.1 }
 {
     let mut all = records;
     let mut from: usize = 0;
     let mut to: usize = 0;
     let mut calls: u64 = 0;
     // a `for` is no plainer here: the list ends at a word that is no kind, and what answers is the number of calls
-    while has_call(list, from) {
-        let call = call_at(header, list, from, to);
+    while let Some(call) = call_at(list, from) {
+        // tried, and the proof did not close: the state as a struct over the loop, since the slices' lengths are not known behind it
+        let mut state = LentState { ends, rests, queue };
         // tried, and not covered by the check: the call's array given straight to `all`
-        let after = call.carry_out(all, j64, j32, j16, j8, jf, ends, rests, queue, last, out);
+        let after = call.carry_out(all, header, job, &mut state, last, out, to);
         all = after;
         from += 4;
         to += 3;
@@ -287,23 +168,26 @@ pub fn carry_out_list(
     records: [Assignment; 512],
     header: JobHeader,
     list: &[u64],
-    j64: &[u64],
-    j32: &[u32],
-    j16: &[u16],
-    j8: &[u8],
-    jf: &[f32],
-    ends: &mut [u64],
-    rests: &mut [u64],
-    queue: &mut [u64],
+    job: LentJob<'_>,
+    state: &mut LentState<'_>,
     last: &mut [u8],
     answers: &mut [u64],
 ) -> Result<([Assignment; 512], u64), Refusal>
-    ensures { ListCarriedOut header (slices j64.now j32.now j16.now j8.now jf.now) list.now (lent_state ends.old rests.old queue.old last.old) records answers.old (lent_state ends.new rests.new queue.new last.new) (afterwards records (first_in result)) answers.new (number_in result) (second_in result) }
+    ensures same { SameState state.old state.new }
+    ensures carried { ListCarriedOut header (slices_of job.entry) list.now (state_in state.old last.old) records answers.old (state_in state.new last.new) (afterwards records (first_in result)) answers.new (number_in result) (second_in result) }
 {
     if answers.len() / 3 < list.len() / 4 {
         return Err(Refusal::ShortBuffer);
     }
     Ok(carry_out_calls(
-        records, header, list, j64, j32, j16, j8, jf, ends, rests, queue, last, answers,
+        records,
+        header,
+        list,
+        job,
+        state.ends,
+        state.rests,
+        state.queue,
+        last,
+        answers,
     ))
 }

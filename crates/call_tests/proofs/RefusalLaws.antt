@@ -10,9 +10,9 @@ use native.Mathlib.Nat.{eq-or-lt_of_le}
 use lib.Dec.{T, leb, eqb, leb→le, nleb→lt, eqb→eq}
 use lib.Ieee.{Float, nan, inf, fin, prec, top, hid, ones, low, binary32, of_bits, of_fields, odd, is_nan}
 use lib.Ieee.Bits.{is_true, nan_bits_is}
-use lib.ListN.{length, take, get_or}
-use lib.Seq.{take_all}
+use lib.ListN.{length, get_or}
 use borrow.Author.Tests.{lt-ltb}
+use Rattle.std.specs.List.{list_any}
 use Rattle.reg_matrix.specs.Lists.{any, has, count, is_nil, is_some}
 use Rattle.reg_matrix.specs.Refusals.{Test, refusal, ◌if◌, short_buffer}
 use Rattle.reg_matrix.proofs.Places.{any_at}
@@ -139,14 +139,16 @@ bad_bits b = go (leb 0x7F80_0000 b) refl
 
 -- ---- 8: who may have a register
 
--- among all of a list
-pub has_all : (r : ℕ) (xs ys : List ℕ) → xs ≡ ys → has r (take (length xs) xs) ≡ has r ys
-has_all r xs ys e = ap (has r) (take_all (length xs) xs (omega arith) ∙ e)
+-- among the registers that are read
+pub has_read : (r : ℕ) (rs : List ℕ) → list_any (λ (x : ℕ). eqb x r) rs ≡ has r rs
+unfolding has
+has_read r [] = refl
+has_read r (x ∷ rs) = ap₂ ◌||◌ (same_test (eqb x r) (eqb r x) (λ t. eqb_in (sym (eqb→eq x r t))) (λ t. eqb_in (sym (eqb→eq r x t)))) (has_read r rs)
 
 -- by what the code finds
-module _ (B : JobBuffers) (n v r : ℕ) (class : List ℕ) (h : Bool) (pc : class ≡ class_in B v) (ph : h ≡ has r (take (length class) class)) where
+module _ (B : JobBuffers) (n v r : ℕ) (class : List ℕ) (h : Bool) (pc : class ≡ class_in B v) (ph : h ≡ has r class) where
   class_names : h ≡ has r (class_in B v)
-  class_names = ph ∙ has_all r class _ pc
+  class_names = ph ∙ ap (has r) pc
 
   pub named_class : h ≡ true → true ≡ named_in B.class_starts B.class_regs B.classes B.value_sets B.hint_starts B.hint_regs n v r
   unfolding named_in

@@ -1,4 +1,4 @@
--- The tests of a direct call in the shape of the code of src/refusals.rt, over what is lent. Laws in proofs/ tie them to Calls.antt. Assumes nothing.
+-- The tests of a direct call in the shape of the code of src/lib.rt, over what is lent. Laws in proofs/ tie them to Calls.antt. Assumes nothing.
 use Rattle.std.specs.Prelude.{ℕ, List, [], ◌∷◌, Bool, true, false, not, ◌&&◌, ◌||◌, leb, eqb, get_or}
 use Rattle.reg_matrix.specs.Lists.{any, has, count, is_nil}
 use Rattle.reg_matrix.specs.Refusals.{Test, ◌if◌}

@@ -11,9 +11,8 @@ use lib.ListN.{length, get_or, set, get_or-eq_default}
 use lib.Seq.{set-get_or}
 use Rattle.std.specs.Prelude.{Result, Ok, Err}
 use Rattle.reg_matrix.specs.Lists.{is_some}
-use Rattle.reg_matrix.specs.Refused.{number_of as refused_number, number_in, refusal_in}
+use Rattle.reg_matrix.specs.Refused.{number_in, refusal_in}
 use Rattle.reg_matrix.specs.declared.Refusal.{Refusal}
-use Rattle.reg_matrix.specs.declared.Refusal.TheVariants.{ShortJob, Tail, UnfitMap, OverLimit, Empty, BadPoint, Unsorted, UnknownNumber, BadWeight, Twin, MixedSet, CutUse, WrongStanding, Interference, ShortBuffer}
 use Rattle.reg_matrix.specs.Refusals.{refusal, short_buffer}
 use Rattle.lent.proofs.Laws.{any_default}
 use Rattle.reg_matrix.proofs.Places.{from_zero}
@@ -35,33 +34,16 @@ use Rattle.allocator.proofs.Good.{Good, good_reached, placeable_idle}
 use Rattle.allocator.proofs.Records.{holder_stays, held_record, idle_record, give_records, lose_records, lose_last}
 use Rattle.stage.proofs.ReachedMoves.{evict_held}
 use Rattle.records.specs.Fields.{flag_in, reg_in}
-use Rattle.moves.specs.Standing.{JobStands}
-use Rattle.moves.specs.Moving.{wide_lists, Taken, TakenBack}
+use Rattle.table_words.specs.declared.buffers.LentState.{LentState}
+use Rattle.moves.specs.Standing.{JobStands, Moves, Stands}
+use Rattle.moves.specs.Moving.{Taken, TakenBack}
 use Rattle.moves.proofs.MoveLaws.{evict_reads, take_reads}
 use Rattle.call_tests.specs.Testing.{clear_to, place_tests, evict_tests}
-use Rattle.run_loop.specs.Running.{lent_state}
+use Rattle.run_loop.specs.Running.{state_in}
 use Rattle.calls.specs.Calling.{refusal_number, value_number, sizes_of, StateStands, unknown_to, place_answer, evict_answer, Placed, Evicted}
 use Rattle.call_tests.proofs.RefusalLaws.{none_placing, none_evicting, named_read, clear_read, held_is, placing_tests, evicting_tests, refused_first}
 
 -- ---- an answer's number
-
--- a refusal has a number
-pub some_number : (e : Refusal) → refused_number e ≡ 0 → ⊥
-some_number ShortJob q = omega arith
-some_number Tail q = omega arith
-some_number UnfitMap q = omega arith
-some_number OverLimit q = omega arith
-some_number Empty q = omega arith
-some_number BadPoint q = omega arith
-some_number Unsorted q = omega arith
-some_number UnknownNumber q = omega arith
-some_number BadWeight q = omega arith
-some_number Twin q = omega arith
-some_number MixedSet q = omega arith
-some_number CutUse q = omega arith
-some_number WrongStanding q = omega arith
-some_number Interference q = omega arith
-some_number ShortBuffer q = omega arith
 
 module _ {A : Type 0} where
   -- the number in an answer is that of its refusal
@@ -195,21 +177,21 @@ module _ (header : JobHeader) (B : JobSlices) (v reg bits : ℕ) (S : StateBuffe
       let c = all_pass 8 (unknown_to header B v reg) _ b.1 in
       nleb→lt 0x7F80_0000 bits (all_pass 9 (leb 0x7F80_0000 bits) _ c.1).0
 
-  module _ (z : n ≡ 0) (ends' rests' queue' last' : List ℕ)
-      (tk : Taken v reg (wide_lists B) S.ends S.rests S.queue S.last ends' rests' queue' last')
+  module _ (z : n ≡ 0) (before : LentState) (is-before : state_in before S.last ≡ S) (after : LentState) (last' : List ℕ)
+      (tk : Taken v reg (lists_in B) before S.last after last')
       (x : Assignment) (px : bits < 0x7F80_0000 → x ≡ Assigned (flag_in a) reg (of_bits binary32 bits))
       (rs' : List Assignment) (pr : rs' ≡ set rs v x) where
     given :
         (j : Job) (s : State) (t : StateBuffers) → Reached j s → JobStands j (lists_in B) → StateStands j s t S rs
         → Placeable j s (sizes_of B S) v reg (of_bits binary32 bits)
-        → StateStands j (give j v (candidate reg (of_bits binary32 bits)) false s) t (lent_state ends' rests' queue' last') rs'
+        → StateStands j (give j v (candidate reg (of_bits binary32 bits)) false s) t (state_in after last') rs'
     given j s t r jb st k =
         let g = good_reached j s r in
         let i = placeable_idle j s g (sizes_of B S) v reg (of_bits binary32 bits) k in
         let c = candidate reg (of_bits binary32 bits) in
         let f-is : flag_in a ≡ flag s v = ap flag_in (read_record B v S rs a read j s t g jb st k.known ∙ idle_record j s g v i) in
         record {
-          stands = tk.reached j s t r (take_reads j B jb) st.stands k.known k.unassigned k.names k.clear c false refl;
+          stands = tk.reached j s t r (take_reads j B jb) (subst (λ (u : StateBuffers). Stands j s t u.ends u.rests u.queue S.last) (sym is-before) st.stands) k.known k.unassigned k.names k.clear c false refl;
           records_are =
               pr
               ∙ ap (λ (l : List Assignment). set l v x) st.records_are
@@ -218,7 +200,7 @@ module _ (header : JobHeader) (B : JobSlices) (v reg bits : ℕ) (S : StateBuffe
               ∙ sym (give_records j s g v k.known c false i.stays);
         }
 
-    pub placing_done : Placed header B v reg bits S rs (lent_state ends' rests' queue' last') rs' n
+    pub placing_done : Placed header B v reg bits S rs (state_in after last') rs' n
     unfolding carried_out
     placing_done =
         record {
@@ -235,7 +217,7 @@ module _ (header : JobHeader) (B : JobSlices) (v reg bits : ℕ) (S : StateBuffe
                     λ j s t r jb h st.
                     let q = placeable j s t r jb h st z in (
                       place_number_lem j s t r jb h st ∙ answer_number j s place_call,
-                      subst (λ (u : State). StateStands j u t (lent_state ends' rests' queue' last') rs') (sym (after_accepted j s place_call q))
+                      subst (λ (u : State). StateStands j u t (state_in after last') rs') (sym (after_accepted j s place_call q))
                           (given j s t r jb st ((placing_accepted j s (sizes_of B S) v reg (of_bits binary32 bits)).0 q)),
                     );
               };
@@ -291,13 +273,13 @@ module _ (header : JobHeader) (B : JobSlices) (v : ℕ) (S : StateBuffers) (rs :
         taken_away = λ j s t r jb h st. sym (value_refused j s evict_call (λ q. z (evict_number_lem j s t r jb h st ∙ q)));
       }
 
-  module _ (z : n ≡ 0) (reg x : ℕ) (pg : reg ≡ reg_in a) (px : x ≡ reg) (ends' rests' queue' : List ℕ)
-      (tb : TakenBack v reg (wide_lists B) S.ends S.rests S.queue ends' rests' queue')
+  module _ (z : n ≡ 0) (reg x : ℕ) (pg : reg ≡ reg_in a) (px : x ≡ reg) (before : LentState) (is-before : state_in before S.last ≡ S) (after : LentState)
+      (tb : TakenBack v reg (lists_in B) before after)
       (y : Assignment) (py : y ≡ Unassigned (flag_in a)) (rs' : List Assignment) (pr : rs' ≡ set rs v y) where
     lost :
         (j : Job) (s : State) (t : StateBuffers) → Reached j s → JobStands j (lists_in B) → StateStands j s t S rs
         → IsNumber j v → (c : CandidateReg) → held_by s v ≡ some c
-        → StateStands j (lose j v c.reg s) t (lent_state ends' rests' queue' S.last) rs'
+        → StateStands j (lose j v c.reg s) t (state_in after S.last) rs'
     lost j s t r jb st b c e =
         let g = good_reached j s r in
         let a-is = read_record B v S rs a read j s t g jb st b ∙ held_record j s g v c e in
@@ -306,7 +288,7 @@ module _ (header : JobHeader) (B : JobSlices) (v : ℕ) (S : StateBuffers) (rs :
           stands =
               record {
                 moves =
-                    tb.reached j s t r (evict_reads j B jb) st.stands.moves c e (sym (pg ∙ ap reg_in a-is));
+                    tb.reached j s t r (evict_reads j B jb) (subst (λ (u : StateBuffers). Moves j s t u.ends u.rests u.queue) (sym is-before) st.stands.moves) c e (sym (pg ∙ ap reg_in a-is));
                 last_is = st.stands.last_is ∙ ap (λ (l : List ℕ). l ++ t.last) (sym (lose_last j v c.reg s));
               };
           records_are =
@@ -316,7 +298,7 @@ module _ (header : JobHeader) (B : JobSlices) (v : ℕ) (S : StateBuffers) (rs :
               ∙ sym (lose_records j s g v b c.reg stays);
         }
 
-    pub evicting_done : Evicted header B v S rs (lent_state ends' rests' queue' S.last) rs' n x
+    pub evicting_done : Evicted header B v S rs (state_in after S.last) rs' n x
     unfolding carried_out answer_of
     evicting_done =
         record {
@@ -333,7 +315,7 @@ module _ (header : JobHeader) (B : JobSlices) (v : ℕ) (S : StateBuffers) (rs :
                     let k = (evicting_accepted j s (sizes_of B S) v).0 q in
                     let c = is_some_lem (held_by s v) k.assigned in (
                       evict_number_lem j s t r jb h st ∙ answer_number j s evict_call,
-                      subst (λ (u : State). StateStands j u t (lent_state ends' rests' queue' S.last) rs')
+                      subst (λ (u : State). StateStands j u t (state_in after S.last) rs')
                           (sym (after_accepted j s evict_call q ∙ evict_held j s v c.0 c.1))
                           (lost j s t r jb st k.known c.0 c.1),
                     );

@@ -2,19 +2,22 @@
 ghost use Rattle.std.specs.Prelude.{◌≡◌, List, get_or, set};
 ghost use Rattle.allocator.specs.declared.Assignment.{Assignment};
 ghost use Rattle.allocator.specs.declared.Assignment.TheVariants.{Dead};
-ghost use Rattle.job.specs.Layout.{slices};
-ghost use Rattle.run_loop.specs.Running.{lent_state};
+ghost use Rattle.table_words.specs.Buffers.{SameState};
+ghost use Rattle.job_parts.specs.Lent.{slices_of};
+ghost use Rattle.run_loop.specs.Running.{state_in};
 ghost use Rattle.reg_matrix.specs.Refused.{number_in};
 ghost use Rattle.calls.specs.Calling.{afterwards, first_in, second_in, place_answer, Placed, Evicted};
 
 use allocator::Assignment;
 use call_tests::{evict_refusal, place_refusal, short_buffers};
 use job::JobHeader;
+use job_parts::lent_job::LentJob;
 use lent::put;
 use moves::{take, take_back};
 use records::assignment::reg_of;
 use records::changes::{placed, waiting};
 use reg_matrix::Refusal;
+use table_words::buffers::LentState;
 
 // The record of v. A number above 511 has none.
 fn record_at(records: [Assignment; 512], v: u16) -> Assignment
@@ -46,32 +49,22 @@ impl Placement {
         self,
         a: Assignment,
         header: JobHeader,
-        j64: &[u64],
-        j32: &[u32],
-        j16: &[u16],
-        j8: &[u8],
-        jf: &[f32],
-        ends: &[u64],
-        rests: &[u64],
-        queue: &[u64],
+        job: LentJob<'_>,
+        state: &LentState<'_>,
         last: &[u8],
     ) -> Result<(), Refusal>
-        ensures { number_in result ≡ place_answer header (slices j64.now j32.now j16.now j8.now jf.now) self.v self.reg self.weight (lent_state ends.now rests.now queue.now last.now) a }
+        ensures { number_in result ≡ place_answer header (slices_of job.entry) self.v self.reg self.weight (state_in state.now last.now) a }
     {
+        let short = short_buffers(job, state, last);
         place_refusal(
-            short_buffers(j64, j32, j16, j8, jf, ends, rests, queue, last),
+            short,
             a,
-            header.virt_regs,
-            header.regs,
+            header,
             self.v,
             self.reg,
             self.weight,
-            j64,
-            j32,
-            j16,
-            j8,
-            ends,
-            rests,
+            job,
+            state.as_table(),
         )
     }
 
@@ -83,20 +76,15 @@ impl Placement {
         self,
         a: Assignment,
         header: JobHeader,
-        j64: &[u64],
-        j32: &[u32],
-        j16: &[u16],
-        j8: &[u8],
-        jf: &[f32],
-        ends: &mut [u64],
-        rests: &mut [u64],
-        queue: &mut [u64],
+        job: LentJob<'_>,
+        state: &mut LentState<'_>,
         last: &mut [u8],
     ) -> Result<Assignment, Refusal>
-        ensures { (rs : List Assignment) → a ≡ get_or rs self.v Dead → Placed header (slices j64.now j32.now j16.now j8.now jf.now) self.v self.reg self.weight (lent_state ends.old rests.old queue.old last.old) rs (lent_state ends.new rests.new queue.new last.new) (set rs self.v (afterwards a result)) (number_in result) }
+        ensures same { SameState state.old state.new }
+        ensures called { (rs : List Assignment) → a ≡ get_or rs self.v Dead → Placed header (slices_of job.entry) self.v self.reg self.weight (state_in state.old last.old) rs (state_in state.new last.new) (set rs self.v (afterwards a result)) (number_in result) }
     {
-        self.refusal(a, header, j64, j32, j16, j8, jf, ends, rests, queue, last)?;
-        take(self.v, self.reg, j64, j32, j16, ends, rests, queue, last);
+        self.refusal(a, header, job, state, last)?;
+        take(self.v, self.reg, job, state, last);
         Ok(placed(a, self.reg, self.weight))
     }
 }
@@ -109,27 +97,23 @@ pub struct Eviction {
 
 impl Eviction {
     // Makes the eviction, where `a` is the record of v: its entries leave the table, and it is queued at stage Evict. Answers the record afterwards,
-    // which keeps the flag, and the register that it held. Refused, nothing is changed: 15 where a buffer is short, 8 where there is no such number, 13 where v holds no register.
+    // which keeps the flag, and the register that it held. Refused, nothing is changed: 15 where a buffer is short, 8 where there is no such number,
+    // 13 where v holds no register.
     pub fn evict(
         self,
         a: Assignment,
         header: JobHeader,
-        j64: &[u64],
-        j32: &[u32],
-        j16: &[u16],
-        j8: &[u8],
-        jf: &[f32],
-        ends: &mut [u64],
-        rests: &mut [u64],
-        queue: &mut [u64],
+        job: LentJob<'_>,
+        state: &mut LentState<'_>,
         last: &[u8],
     ) -> Result<(Assignment, u8), Refusal>
-        ensures { (rs : List Assignment) → a ≡ get_or rs self.v Dead → Evicted header (slices j64.now j32.now j16.now j8.now jf.now) self.v (lent_state ends.old rests.old queue.old last.now) rs (lent_state ends.new rests.new queue.new last.now) (set rs self.v (afterwards a (first_in result))) (number_in result) (second_in result) }
+        ensures same { SameState state.old state.new }
+        ensures called { (rs : List Assignment) → a ≡ get_or rs self.v Dead → Evicted header (slices_of job.entry) self.v (state_in state.old last.now) rs (state_in state.new last.now) (set rs self.v (afterwards a (first_in result))) (number_in result) (second_in result) }
     {
-        let short = short_buffers(j64, j32, j16, j8, jf, ends, rests, queue, last);
+        let short = short_buffers(job, state, last);
         evict_refusal(short, a, header.virt_regs, self.v)?;
         let reg = reg_of(a);
-        take_back(self.v, reg, j64, j32, j16, ends, rests, queue);
+        take_back(self.v, reg, job, state);
         Ok((waiting(a), reg))
     }
 }
@@ -144,21 +128,16 @@ pub fn assign(
     v: u16,
     reg: u8,
     weight: u32,
-    j64: &[u64],
-    j32: &[u32],
-    j16: &[u16],
-    j8: &[u8],
-    jf: &[f32],
-    ends: &mut [u64],
-    rests: &mut [u64],
-    queue: &mut [u64],
+    job: LentJob<'_>,
+    state: &mut LentState<'_>,
     last: &mut [u8],
 ) -> Result<[Assignment; 512], Refusal>
-    ensures { Placed header (slices j64.now j32.now j16.now j8.now jf.now) v reg weight (lent_state ends.old rests.old queue.old last.old) records (lent_state ends.new rests.new queue.new last.new) (afterwards records result) (number_in result) }
+    ensures same { SameState state.old state.new }
+    ensures called { Placed header (slices_of job.entry) v reg weight (state_in state.old last.old) records (state_in state.new last.new) (afterwards records result) (number_in result) }
 {
     let a = record_at(records, v);
     let asked = Placement { v, reg, weight };
-    let after = asked.place(a, header, j64, j32, j16, j8, jf, ends, rests, queue, last)?;
+    let after = asked.place(a, header, job, state, last)?;
     Ok(with_record(records, v, after))
 }
 
@@ -168,20 +147,15 @@ pub fn evict(
     records: [Assignment; 512],
     header: JobHeader,
     v: u16,
-    j64: &[u64],
-    j32: &[u32],
-    j16: &[u16],
-    j8: &[u8],
-    jf: &[f32],
-    ends: &mut [u64],
-    rests: &mut [u64],
-    queue: &mut [u64],
+    job: LentJob<'_>,
+    state: &mut LentState<'_>,
     last: &[u8],
 ) -> Result<([Assignment; 512], u8), Refusal>
-    ensures { Evicted header (slices j64.now j32.now j16.now j8.now jf.now) v (lent_state ends.old rests.old queue.old last.now) records (lent_state ends.new rests.new queue.new last.now) (afterwards records (first_in result)) (number_in result) (second_in result) }
+    ensures same { SameState state.old state.new }
+    ensures called { Evicted header (slices_of job.entry) v (state_in state.old last.now) records (state_in state.new last.now) (afterwards records (first_in result)) (number_in result) (second_in result) }
 {
     let a = record_at(records, v);
     let asked = Eviction { v };
-    let (after, reg) = asked.evict(a, header, j64, j32, j16, j8, jf, ends, rests, queue, last)?;
+    let (after, reg) = asked.evict(a, header, job, state, last)?;
     Ok((with_record(records, v, after), reg))
 }

@@ -8,6 +8,7 @@ use mathlib.Core.Bool.{Bool, true, false, not, ◌&&◌, ◌||◌}
 use lib.Dec.{T}
 use lib.ListN.{get_or, set}
 use Rattle.reg_matrix.specs.Lists.{is_some, foldl}
+use Rattle.table_words.specs.declared.buffers.LentState.{LentState}
 use Rattle.job.specs.Model.{Job}
 use Rattle.job.specs.Layout.{JobBuffers}
 use Rattle.allocator.specs.declared.Assignment.{Assignment}
@@ -66,10 +67,10 @@ took j s v c f vs = refl
 
 -- ---- a register is taken and recorded
 
-module _ (v : ℕ) (c : CandidateReg) (f : Bool) (B : JobBuffers) (ends rests queue last W : List ℕ) where
+module _ (v : ℕ) (c : CandidateReg) (f : Bool) (B : JobBuffers) (S : LentState) (last W : List ℕ) where
   pub settled :
-      (ends' rests' queue' last' : List ℕ)
-      → Taken v c.reg B ends rests queue last ends' rests' queue' last'
+      (S' : LentState) (last' : List ℕ)
+      → Taken v c.reg B S last S' last'
       → (b : Assignment)
       → b ≡ record_in (get_or W v 0)
       → (a : Assignment)
@@ -78,8 +79,8 @@ module _ (v : ℕ) (c : CandidateReg) (f : Bool) (B : JobBuffers) (ends rests qu
       → (x ≡ record_word a) × (PlainRecord a → record_in x ≡ a)
       → (W' : List ℕ)
       → W' ≡ set W v x
-      → Settled v c f B ends rests queue last W ends' rests' queue' last' W'
-  settled ends' rests' queue' last' tk b pb a pa x px W' st' =
+      → Settled v c f B S last W S' last' W'
+  settled S' last' tk b pb a pa x px W' st' =
       record {
         reached =
             λ j s t reach k st is known free names clear plain.
@@ -95,110 +96,132 @@ module _ (v : ℕ) (c : CandidateReg) (f : Bool) (B : JobBuffers) (ends rests qu
 
 -- ---- a decision
 
-module _ (d : Decided) (v : ℕ) (B : JobBuffers) (ends rests queue last W : List ℕ) where
-  abbrev Out : List ℕ → List ℕ → List ℕ → List ℕ → List ℕ → Type 0
-  Out ends' rests' queue' last' W' = CarriedOut d v B ends rests queue last W ends' rests' queue' last' W'
+module _ (d : Decided) (v : ℕ) (B : JobBuffers) (S : LentState) (last W : List ℕ) where
+  abbrev Out : LentState → List ℕ → List ℕ → Type 0
+  Out S' last' W' = CarriedOut d v B S last W S' last' W'
 
   -- what stands in the place of a step
-  outcome : (ends' rests' queue' last' W' : List ℕ)
-      → ((j : Job) (s : State) (t : StateBuffers) (q : Stage) → Good j s → Idle j s v → EvictReads j B → Stands j s t ends rests queue last → decision_of d ≡ decide j s v q
-      → (x : State) × (state_of (dequeue j s v q) ≡ x) × Stands j x t ends' rests' queue' last' × (WordsOf (records s) W → WordsOf (records x) W'))
-      → Out ends' rests' queue' last' W'
-  outcome ends' rests' queue' last' W' f =
+  outcome : (S' : LentState) (last' W' : List ℕ)
+      → ((j : Job) (s : State) (t : StateBuffers) (q : Stage) → Good j s → Idle j s v → EvictReads j B → Stands j s t S.ends.now S.rests.now S.queue.now last → decision_of d ≡ decide j s v q
+      → (x : State) × (state_of (dequeue j s v q) ≡ x) × Stands j x t S'.ends.now S'.rests.now S'.queue.now last' × (WordsOf (records s) W → WordsOf (records x) W'))
+      → Out S' last' W'
+  outcome S' last' W' f =
       record {
         reached =
             λ j s t q reach e k st is queued dec.
             let g = good_reached j s reach in
             let o = f j s t q g (queued_idle j s g v q queued) e st dec in (
-              subst (λ (x : State). Stands j x t ends' rests' queue' last') (sym o.1) o.2,
+              subst (λ (x : State). Stands j x t S'.ends.now S'.rests.now S'.queue.now last') (sym o.1) o.2,
               subst (λ (x : State). WordsOf (records x) W') (sym o.1) (o.3 is),
             );
-      }
-
-  -- left over
-  carried_leaves : d ≡ Leaves → (queue' : List ℕ) → queue' ≡ set_word v 0 queue → (W' : List ℕ) → W' ≡ set W v (record_word Dead) → Out ends rests queue' last W'
-  unfolding leave carry_out
-  carried_leaves x queue' pq W' pw =
-      outcome ends rests queue' last W'
-      (λ j s t q g i e st dec. (
-        leave v s,
-        as_decided d Leaves x j s v q dec,
-        record {
-          moves =
-              record {
-                table = record { ends_are = st.moves.table.ends_are; rests_are = st.moves.table.rests_are };
-                queue_is = pq ∙ unqueued j s g (leave v s) v i.known t.queue queue st.moves.queue_is refl;
-              };
-          last_is = st.last_is ∙ ap (λ (l : List ℕ). l ++ t.last) (sym (leave_last j s g v i.known));
-        },
-        λ is.
-            rw pw
-            (subst (λ (rs : List Assignment). WordsOf rs (set W v (record_word Dead))) (sym (leave_records j s g v i.known))
-            (word_set is (records_length s) v (record_word Dead) Dead refl dead_word)),
-      ))
-
-  -- queued otherwise: the table, the last registers and the records stay
-  requeued : (j : Job) (s : State) (t : StateBuffers) (g : Good j s) → Idle j s v → (q : Option Stage) (queue' : List ℕ) → queue' ≡ queue_words j (requeue v q s) ++ t.queue → Stands j s t ends rests queue last → Stands j (requeue v q s) t ends rests queue' last
-  unfolding requeue
-  requeued j s t g i q queue' p st =
-      record {
-        moves = record { table = record { ends_are = st.moves.table.ends_are; rests_are = st.moves.table.rests_are }; queue_is = p };
-        last_is = st.last_is ∙ ap (λ (l : List ℕ). l ++ t.last) (sym (requeue_last j s g v i.known q));
       }
 
   same_records : (j : Job) (s : State) (g : Good j s) → Idle j s v → (q : Option Stage) → WordsOf (records s) W → WordsOf (records (requeue v q s)) W
   same_records j s g i q is = subst (λ (rs : List Assignment). WordsOf rs W) (sym (requeue_records j s g v i.known q)) is
 
-  -- back to the queue at stage Split
-  carried_splits : d ≡ Splits → (queue' : List ℕ) → queue' ≡ set_word v (key_in B v Split + 1) queue → Out ends rests queue' last W
-  unfolding requeue carry_out
-  carried_splits x queue' pq =
-      outcome ends rests queue' last W
-      (λ j s t q g i e st dec.
-      let word : queue' ≡ queue_words j (requeue v (some Split) s) ++ t.queue =
-      pq ∙ queued_at_lem j s g (requeue v (some Split) s) v i.known t.queue queue st.moves.queue_is Split refl B e.hint_starts e.sizes_are in (
-        requeue v (some Split) s,
-        as_decided d Splits x j s v q dec,
-        requeued j s t g i (some Split) queue' word st,
-        same_records j s g i (some Split),
-      ))
+  -- the table stays
+  module _ (S' : LentState) (ends-stay : S'.ends.now ≡ S.ends.now) (rests-stay : S'.rests.now ≡ S.rests.now) where
+    -- left over
+    carried_leaves : d ≡ Leaves → S'.queue.now ≡ set_word v 0 S.queue.now → (W' : List ℕ) → W' ≡ set W v (record_word Dead) → Out S' last W'
+    unfolding leave carry_out
+    carried_leaves x pq W' pw =
+        outcome S' last W'
+        (λ j s t q g i e st dec. (
+          leave v s,
+          as_decided d Leaves x j s v q dec,
+          record {
+            moves =
+                record {
+                  table = record { ends_are = ends-stay ∙ st.moves.table.ends_are; rests_are = rests-stay ∙ st.moves.table.rests_are };
+                  queue_is = pq ∙ unqueued j s g (leave v s) v i.known t.queue S.queue.now st.moves.queue_is refl;
+                };
+            last_is = st.last_is ∙ ap (λ (l : List ℕ). l ++ t.last) (sym (leave_last j s g v i.known));
+          },
+          λ is.
+              rw pw
+              (subst (λ (rs : List Assignment). WordsOf rs (set W v (record_word Dead))) (sym (leave_records j s g v i.known))
+              (word_set is (records_length s) v (record_word Dead) Dead refl dead_word)),
+        ))
 
-  -- off the queue, and the run ends
-  carried_fails : d ≡ Fails → (queue' : List ℕ) → queue' ≡ set_word v 0 queue → Out ends rests queue' last W
-  unfolding requeue carry_out
-  carried_fails x queue' pq =
-      outcome ends rests queue' last W
-      (λ j s t q g i e st dec. (
-        requeue v none s,
-        as_decided d Fails x j s v q dec,
-        requeued j s t g i none queue' (pq ∙ unqueued j s g (requeue v none s) v i.known t.queue queue st.moves.queue_is refl) st,
-        same_records j s g i none,
-      ))
+    -- queued otherwise: the last registers and the records stay too
+    requeued : (j : Job) (s : State) (t : StateBuffers) (g : Good j s) → Idle j s v → (q : Option Stage) → S'.queue.now ≡ queue_words j (requeue v q s) ++ t.queue → Stands j s t S.ends.now S.rests.now S.queue.now last → Stands j (requeue v q s) t S'.ends.now S'.rests.now S'.queue.now last
+    unfolding requeue
+    requeued j s t g i q p st =
+        record {
+          moves =
+              record {
+                table = record { ends_are = ends-stay ∙ st.moves.table.ends_are; rests_are = rests-stay ∙ st.moves.table.rests_are };
+                queue_is = p;
+              };
+          last_is = st.last_is ∙ ap (λ (l : List ℕ). l ++ t.last) (sym (requeue_last j s g v i.known q));
+        }
+
+    -- back to the queue at stage Split
+    carried_splits : d ≡ Splits → S'.queue.now ≡ set_word v (key_in B v Split + 1) S.queue.now → Out S' last W
+    unfolding requeue carry_out
+    carried_splits x pq =
+        outcome S' last W
+        (λ j s t q g i e st dec.
+        let word : S'.queue.now ≡ queue_words j (requeue v (some Split) s) ++ t.queue =
+        pq ∙ queued_at_lem j s g (requeue v (some Split) s) v i.known t.queue S.queue.now st.moves.queue_is Split refl B e.hint_starts e.sizes_are in (
+          requeue v (some Split) s,
+          as_decided d Splits x j s v q dec,
+          requeued j s t g i (some Split) word st,
+          same_records j s g i (some Split),
+        ))
+
+    -- off the queue, and the run ends
+    carried_fails : d ≡ Fails → S'.queue.now ≡ set_word v 0 S.queue.now → Out S' last W
+    unfolding requeue carry_out
+    carried_fails x pq =
+        outcome S' last W
+        (λ j s t q g i e st dec. (
+          requeue v none s,
+          as_decided d Fails x j s v q dec,
+          requeued j s t g i none (pq ∙ unqueued j s g (requeue v none s) v i.known t.queue S.queue.now st.moves.queue_is refl) st,
+          same_records j s g i none,
+        ))
+
+    -- no register is taken
+    pub carried_passed :
+        ((c : CandidateReg) → d ≡ Takes c → ⊥)
+        → ((c : CandidateReg) (f : Bool) (gone : List Bool) → d ≡ Evicts c f gone → ⊥)
+        → (W' : List ℕ)
+        → PassedBy d v (key_in B v Split) S.queue.now W S'.queue.now W'
+        → Out S' last W'
+    carried_passed not-takes not-evicts W' pb = go d refl pb.parts
+      where
+        go : (x : Decided) → d ≡ x → PassedParts x v (key_in B v Split) S.queue.now W S'.queue.now W' → Out S' last W'
+        go Leaves f p = carried_leaves f p.0 W' p.1
+        go (Takes c) f p = absurd (not-takes c f)
+        go (Evicts c b gone) f p = absurd (not-evicts c b gone f)
+        go Splits f p = rw p.1 (carried_splits f p.0)
+        go Fails f p = rw p.1 (carried_fails f p.0)
 
   -- what stands where a register is taken on the state x, on which others may have been evicted
   took_there :
-      (ends' rests' queue' last' W' : List ℕ) (j : Job) (t : StateBuffers) (x y : State)
+      (S' : LentState) (last' W' : List ℕ) (j : Job) (t : StateBuffers) (x y : State)
       → y ≡ x
-      → Stands j x t ends' rests' queue' last' × WordsOf (records x) W'
-      → Stands j y t ends' rests' queue' last' × WordsOf (records y) W'
-  took_there ends' rests' queue' last' W' j t x y e o = rw e o
+      → Stands j x t S'.ends.now S'.rests.now S'.queue.now last' × WordsOf (records x) W'
+      → Stands j y t S'.ends.now S'.rests.now S'.queue.now last' × WordsOf (records y) W'
+  took_there S' last' W' j t x y e o = rw e o
 
   -- a clear register is taken
   pub carried_takes :
       (c : CandidateReg)
       → d ≡ Takes c
-      → (ends' rests' queue' last' W' : List ℕ)
-      → Settled v c false B ends rests queue last W ends' rests' queue' last' W'
-      → Out ends' rests' queue' last' W'
+      → (S' : LentState) (last' W' : List ℕ)
+      → Settled v c false B S last W S' last' W'
+      → Out S' last' W'
   unfolding evict_all foldl
-  carried_takes c x ends' rests' queue' last' W' se =
+  carried_takes c x S' last' W' se =
       record {
         reached =
             λ j s t q reach e k st is queued dec.
             let g = good_reached j s reach in
             let i = queued_idle j s g v q queued in
             let a = takes_good j s g v i q c false [] (sym dec ∙ ap decision_of x) in
-            took_there ends' rests' queue' last' W' j t (give j v c false s) (state_of (dequeue j s v q))
+            took_there S' last' W' j t (give j v c false s) (state_of (dequeue j s v q))
             (as_decided d (Takes c) x j s v q dec ∙ took j s v c false [])
             (se.reached j s t reach k st is i.known (idle_unassigned j s v i) a.candidate.names a.clear a.candidate.plain);
       }
@@ -207,12 +230,12 @@ module _ (d : Decided) (v : ℕ) (B : JobBuffers) (ends rests queue last W : Lis
   pub carried_evicts :
       (c : CandidateReg) (f : Bool) (gone : List Bool)
       → d ≡ Evicts c f gone
-      → (ends₁ rests₁ queue₁ W₁ : List ℕ)
-      → EvictedAll gone B ends rests queue W ends₁ rests₁ queue₁ W₁
-      → (ends' rests' queue' last' W' : List ℕ)
-      → Settled v c f B ends₁ rests₁ queue₁ last W₁ ends' rests' queue' last' W'
-      → Out ends' rests' queue' last' W'
-  carried_evicts c f gone x ends₁ rests₁ queue₁ W₁ ea ends' rests' queue' last' W' se =
+      → (S₁ : LentState) (W₁ : List ℕ)
+      → EvictedAll gone B S W S₁ W₁
+      → (S' : LentState) (last' W' : List ℕ)
+      → Settled v c f B S₁ last W₁ S' last' W'
+      → Out S' last' W'
+  carried_evicts c f gone x S₁ W₁ ea S' last' W' se =
       record {
         reached =
             λ j s t q reach e k st is queued dec.
@@ -223,23 +246,7 @@ module _ (d : Decided) (v : ℕ) (B : JobBuffers) (ends rests queue last W : Lis
             let y = evict_all j vs s in
             let m = ea.reached j s t reach e st.moves is in
             let lasts : last ≡ last_words y ++ t.last = st.last_is ∙ ap (λ (l : List ℕ). l ++ t.last) (sym (evict_all_keeps last_words j (lose_last j) vs s)) in
-            took_there ends' rests' queue' last' W' j t (give j v c f y) (state_of (dequeue j s v q))
+            took_there S' last' W' j t (give j v c f y) (state_of (dequeue j s v q))
             (as_decided d (Evicts c f gone) x j s v q dec ∙ took j s v c f vs)
             (se.reached j y t (reached_evict_all j vs s reach) k (record { moves = m.0; last_is = lasts }) m.1 a.idle.known (idle_unassigned j y v a.idle) a.candidate.names a.clear a.candidate.plain);
       }
-
-  -- no register is taken
-  pub carried_passed :
-      ((c : CandidateReg) → d ≡ Takes c → ⊥)
-      → ((c : CandidateReg) (f : Bool) (gone : List Bool) → d ≡ Evicts c f gone → ⊥)
-      → (queue' W' : List ℕ)
-      → PassedBy d v (key_in B v Split) queue W queue' W'
-      → Out ends rests queue' last W'
-  carried_passed not-takes not-evicts queue' W' pb = go d refl pb.parts
-    where
-      go : (x : Decided) → d ≡ x → PassedParts x v (key_in B v Split) queue W queue' W' → Out ends rests queue' last W'
-      go Leaves f p = carried_leaves f queue' p.0 W' p.1
-      go (Takes c) f p = absurd (not-takes c f)
-      go (Evicts c b gone) f p = absurd (not-evicts c b gone f)
-      go Splits f p = rw p.1 (carried_splits f queue' p.0)
-      go Fails f p = rw p.1 (carried_fails f queue' p.0)

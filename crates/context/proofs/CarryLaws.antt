@@ -6,6 +6,7 @@ use mathlib.Core.Bool.{Bool, true, false, not}
 use lib.Dec.{T}
 use lib.Ieee.{Float}
 use lib.ListN.{get_or, set}
+use Rattle.table_words.specs.declared.buffers.LentState.{LentState}
 use Rattle.job.specs.Model.{Job}
 use Rattle.job.specs.Layout.{JobBuffers}
 use Rattle.allocator.specs.declared.Assignment.{Assignment}
@@ -36,43 +37,43 @@ held_as (Unassigned g) f r y p e = absurd (subst (λ (x : Bool). T (not x)) y tt
 held_as Dead f r y p e = absurd (subst (λ (x : Bool). T (not x)) y tt)
 
 -- those below i are done: the state then is x, and evicting the others from i on gives what evicting all gives
-pub record Onward (j : Job) (s : State) (t : StateBuffers) (i : ℕ) (gone : List Bool) (ends' rests' queue' W' : List ℕ) : Type 0 where
+pub record Onward (j : Job) (s : State) (t : StateBuffers) (i : ℕ) (gone : List Bool) (S' : LentState) (W' : List ℕ) : Type 0 where
   pub x : State
   pub reached : Reached j x
-  pub moves : Moves j x t ends' rests' queue'
+  pub moves : Moves j x t S'.ends.now S'.rests.now S'.queue.now
   pub records_are : WordsOf (records x) W'
   pub whole : evict_marked j gone i x i x ≡ evict_all j (members gone) s
 
-pub record EvictedTo (i : ℕ) (gone : List Bool) (B : JobBuffers) (ends rests queue W ends' rests' queue' W' : List ℕ) : Type 0 where
+pub record EvictedTo (i : ℕ) (gone : List Bool) (B : JobBuffers) (S : LentState) (W : List ℕ) (S' : LentState) (W' : List ℕ) : Type 0 where
   pub onward :
       (j : Job) (s : State) (t : StateBuffers)
       → Reached j s
       → EvictReads j B
-      → Moves j s t ends rests queue
+      → Moves j s t S.ends.now S.rests.now S.queue.now
       → WordsOf (records s) W
-      → Onward j s t i gone ends' rests' queue' W'
+      → Onward j s t i gone S' W'
 
-module _ (gone : List Bool) (B : JobBuffers) (ends rests queue W : List ℕ) where
-  abbrev To : ℕ → List ℕ → List ℕ → List ℕ → List ℕ → Type 0
-  To i ends' rests' queue' W' = EvictedTo i gone B ends rests queue W ends' rests' queue' W'
+module _ (gone : List Bool) (B : JobBuffers) (S : LentState) (W : List ℕ) where
+  abbrev To : ℕ → LentState → List ℕ → Type 0
+  To i S' W' = EvictedTo i gone B S W S' W'
 
-  pub evict_start : To 0 ends rests queue W
+  pub evict_start : To 0 S W
   unfolding members
   evict_start = record { onward = λ j s t reach e mv is. record { x = s; reached = reach; moves = mv; records_are = is; whole = refl } }
 
-  module _ (i : ℕ) (ends' rests' queue' W' : List ℕ) (so_far : To i ends' rests' queue' W') where
-    pub evict_end : 512 ≤ i → EvictedAll gone B ends rests queue W ends' rests' queue' W'
+  module _ (i : ℕ) (S' : LentState) (W' : List ℕ) (so_far : To i S' W') where
+    pub evict_end : 512 ≤ i → EvictedAll gone B S W S' W'
     evict_end h =
         record {
           reached =
               λ j s t reach e mv is.
               let o = so_far.onward j s t reach e mv is in
               let all : o.x ≡ evict_all j (members gone) s = marked_end j gone i o.x h ∙ o.whole in
-              (subst (λ (x : State). Moves j x t ends' rests' queue') all o.moves, subst (λ (x : State). WordsOf (records x) W') all o.records_are);
+              (subst (λ (x : State). Moves j x t S'.ends.now S'.rests.now S'.queue.now) all o.moves, subst (λ (x : State). WordsOf (records x) W') all o.records_are);
         }
 
     -- i is not of the set
-    pub evict_pass : i < 512 → get_or gone i false ≡ false → To (i + 1) ends' rests' queue' W'
+    pub evict_pass : i < 512 → get_or gone i false ≡ false → To (i + 1) S' W'
     evict_pass l n =
         record {
           onward =
@@ -87,7 +88,7 @@ module _ (gone : List Bool) (B : JobBuffers) (ends rests queue W : List ℕ) whe
       own x is = sym (record_read x Dead i l) ∙ sym (word_read is i l) ∙ sym has
 
       -- i holds nothing
-      pub evict_idle : is_held a ≡ false → To (i + 1) ends' rests' queue' W'
+      pub evict_idle : is_held a ≡ false → To (i + 1) S' W'
       evict_idle n =
           record {
             onward =
@@ -114,13 +115,13 @@ module _ (gone : List Bool) (B : JobBuffers) (ends rests queue W : List ℕ) whe
           → is_held a ≡ true
           → f ≡ flag_in a
           → reg ≡ reg_in a
-          → (ends'' rests'' queue'' : List ℕ)
-          → TakenBack i reg B ends' rests' queue' ends'' rests'' queue''
+          → (S'' : LentState)
+          → TakenBack i reg B S' S''
           → (W'' : List ℕ) (x : ℕ)
           → (x ≡ record_word (Unassigned f)) × (PlainRecord (Unassigned f) → record_in x ≡ Unassigned f)
           → W'' ≡ set W' i x
-          → To (i + 1) ends'' rests'' queue'' W''
-      evict_one f reg y pf pr ends'' rests'' queue'' tb W'' x px st =
+          → To (i + 1) S'' W''
+      evict_one f reg y pf pr S'' tb W'' x px st =
           record {
             onward =
                 λ j s t reach e mv is.

@@ -1,5 +1,5 @@
-// A dequeue carried out (`allocator/mod.rs`): over the job's lists as loading leaves them, the table's two slices, the queue and the last registers,
-// with the records in words.
+// A dequeue carried out (`allocator/mod.rs`): over the job as loading leaves it, the state that is lent, and the last registers, with the records in
+// words.
 #![tactic(auto)]
 
 pub mod carry;

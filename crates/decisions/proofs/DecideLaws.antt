@@ -1,28 +1,22 @@
 -- A dequeue's decision in the code, end by end: what each function returns there is what the definition says. Assumes nothing.
-use Prim.Native.Nat.{ℕ, ◌≤◌}
-use native.Mathlib.Omega.{arith}
+use Prim.Native.Nat.{ℕ}
 use mathlib.Core.Path.{◌≡◌, ap}
-use mathlib.Core.List.{List, []}
-use mathlib.Core.Option.{Option}
+use mathlib.Core.List.{List}
 use mathlib.Core.Bool.{Bool, true, false, not, ◌&&◌}
 use lib.Ieee.{Float, lt, eq}
-use lib.ListN.{length, length-take}
 use Rattle.matrix.specs.Walk.{Lent}
-use Rattle.job.specs.Model.{VirtReg, zero_weight}
 use Rattle.job.specs.Layout.{JobBuffers}
 use Rattle.allocator.specs.declared.CandidateReg.{CandidateReg}
 use Rattle.allocator.specs.declared.Stage.{Stage}
 use Rattle.allocator.specs.declared.Stage.TheVariants.{Evict, Split}
 use Rattle.allocator.specs.Order.{highest_preference}
 use Rattle.allocator.specs.Evict.{infinite}
-use Rattle.allocator.proofs.Capacity.{hinted_length}
 use Rattle.std.proofs.Common.{Option as Maybe, Some, None}
-use Rattle.order.specs.OrderWalk.{hints_of, hinted_of, zip_hints, last_of, offers_from}
+use Rattle.order.specs.OrderWalk.{hints_of, hinted_of, last_of, offers_from}
 use Rattle.stage.specs.AllocateWalk.{available_in, evict_in, prefer_in}
 use Rattle.stage.specs.declared.allocate.Best.{Best}
 use Rattle.stage.specs.declared.allocate.Available.{Available}
 use Rattle.stage.specs.declared.allocate.Available.TheVariants.{Clear, NoneClear, NoCandidates}
-use Rattle.order.proofs.OrderLaws.{hinted_is}
 use Rattle.job_parts.specs.Shares.{share_of}
 use Rattle.decisions.specs.Deciding.{Leaves, Takes, Evicts, Splits, Fails, last_in, preferred_or, clear_in, evicted_or, none_clear_in, found_in, in_order, hinted_in}
 
@@ -89,12 +83,6 @@ unfolding in_order
 order_found W maps ws ss hs class flag own q a p = ap (found_in W maps ws ss hs flag own (offers_from hs class 0) q) p
 
 -- ---- over the job's buffers
-
-pub hinted_few : (hr : List ℕ) (hw : List Float) (last : Option ℕ) → length (hinted_of (hints_of hr hw) last) ≤ 65
-unfolding hints_of
-hinted_few hr hw last =
-    let x : VirtReg = record { class = 0; value_set = 0; spill_weight = zero_weight; size = 0; hints = hints_of hr hw; segments = [] } in
-    rw (hinted_is x last) (omega (arith, hinted_length x last, length-take 64 (zip_hints hr hw)))
 
 -- the hinted candidates of what was read for v
 pub hinted_read : (B : JobBuffers) (last : List ℕ) (v : ℕ) (hr : List ℕ) (hw : List Float) (la : Maybe ℕ)

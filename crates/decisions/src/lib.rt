@@ -1,28 +1,33 @@
 // What a dequeue decides (`Context::allocate`). It reads, and changes nothing.
 #![tactic(auto)]
 
-ghost use Rattle.std.specs.Prelude.{◌≡◌, None, false, not, ◌&&◌, List, [], ℕ, ◌+◌, ◌≤◌, length, get_or};
+ghost use Rattle.std.specs.Prelude.{◌≡◌, not, ◌&&◌, get_or};
 ghost use Rattle.std.specs.Float.Ieee.{lt};
-ghost use Rattle.job.specs.Layout.{slices, lists_in};
-ghost use Rattle.allocator.specs.declared.CandidateReg.{CandidateReg};
+ghost use Rattle.job.specs.Layout.{lists_in};
 ghost use Rattle.allocator.specs.Order.{highest_preference};
 ghost use Rattle.records.specs.Fields.{flag_in};
 ghost use Rattle.record_words.specs.Words.{record_in, held_in};
-ghost use Rattle.order.specs.OrderWalk.{Computed, offers_from};
-ghost use Rattle.stage.specs.AllocateWalk.{available_in, evict_in};
-ghost use Rattle.job_parts.specs.Shares.{class_in};
-ghost use Rattle.decisions.specs.Deciding.{Evicts, last_in, clear_in, none_clear_in, in_order, lent_to, hinted_in, decided_in};
+ghost use Rattle.order.specs.Hinted.{hinted_by};
+ghost use Rattle.stage.specs.Searching.{lent_for};
+ghost use Rattle.job_parts.specs.Shares.{share_of};
+ghost use Rattle.job_parts.specs.Lent.{slices_of};
+ghost use Rattle.decisions.specs.Deciding.{Evicts, last_in, lent_to, hinted_in, decided_in};
+ghost use Rattle.decisions.specs.Dequeues.{clear_for, none_clear_for, decided_for};
 
 use allocator::{CandidateReg, Stage};
 use job::{HINT_REGS, HINT_STARTS, HINT_WEIGHTS, SETS, USES};
-use job_parts::{class_of, froms_of, part_of, tos_of, values_of};
+use job_parts::lent_job::LentJob;
+use job_parts::{class_of, part_of, segments_of};
 use lent::{at, from};
-use order::{AllocationOrder, compute, highest_preference};
+use order::Hints;
+use order::allocation_order::AllocationOrder;
 use record_words::record_of;
 use records::assignment::flag_of;
 use stage::allocate::{
     Available, Best, find_available_reg, try_evict, try_evict_for_preferred_reg,
 };
+use stage::search::Search;
+use table_words::buffers::{RegMatrix, Table};
 
 // What a dequeue decides of a number: it is left over; it takes a register that is clear; it takes one after evicting its holders, and its flag turns on
 // or stays; it goes back to the queue at stage Split; or the run ends, as too many are live.
@@ -56,172 +61,73 @@ fn evicts(best: Best, flag: bool) -> Decided
     Decided::Evicts { to, flag, holders }
 }
 
-// The hinted candidates of v, into the slices lent for them, 65 long each.
-fn order_of(
-    v: u16,
-    j16: &[u16],
-    j8: &[u8],
-    jf: &[f32],
-    last: &[u8],
-    regs: &mut [u8],
-    weights: &mut [f32],
-) -> AllocationOrder
-    ensures { 65 ≤ length regs.old → 65 ≤ length weights.old → Computed result regs.new weights.new (hinted_in (lists_in (slices [] [] j16.now j8.now jf.now)) last.now v) }
+// The hints of v.
+fn hints_of<'a>(v: u16, job: LentJob<'a>) -> Hints<'a>
+    ensures { (result.regs.now ≡ share_of (lists_in (slices_of job.entry)).hint_starts v (lists_in (slices_of job.entry)).hint_regs) × (result.weights.now ≡ share_of (lists_in (slices_of job.entry)).hint_starts v (lists_in (slices_of job.entry)).hint_weights) }
 {
-    let starts = from(j16, HINT_STARTS);
-    compute(
-        part_of(starts, v, from(j8, HINT_REGS)),
-        part_of(starts, v, from(jf, HINT_WEIGHTS)),
-        last_given(last, from(j16, SETS), v),
-        regs,
-        weights,
-    )
+    let starts = from(job.j16, HINT_STARTS);
+    Hints {
+        regs: part_of(starts, v, from(job.j8, HINT_REGS)),
+        weights: part_of(starts, v, from(job.jf, HINT_WEIGHTS)),
+    }
 }
 
-// A number that is dequeued: the stage that it was queued at, its flag, its spill weight, and the order of its candidates.
+// What the searches for v read.
+fn search_of<'a>(v: u16, words: &'a [u64], job: LentJob<'a>, table: Table<'a>) -> Search<'a>
+    ensures lent { lent_for result ≡ lent_to (lists_in (slices_of job.entry)) table.entry.ends.now table.entry.rests.now v }
+    ensures lists { (result.maps.now ≡ job.entry.j64.now) × (result.words.now ≡ words.now) × (result.spills.now ≡ job.entry.jf.now) }
+{
+    Search {
+        maps: job.j64,
+        matrix: RegMatrix {
+            table,
+            uses: from(job.j64, USES),
+        },
+        segments: segments_of(v, job),
+        words,
+        spills: job.jf,
+    }
+}
+
+// A number that is dequeued: the stage that it was queued at, its flag, its spill weight, the order of its candidates, and what the searches read.
 #[derive(Clone, Copy)]
-struct Dequeued {
-    v: u16,
+struct Dequeued<'a> {
     stage: Stage,
     flag: bool,
     spill_weight: f32,
-    order: AllocationOrder,
+    order: &'a AllocationOrder<'a>,
+    search: Search<'a>,
 }
 
-impl Dequeued {
-    // The first candidate that is clear, if there is one.
-    fn available(
-        self,
-        regs: &[u8],
-        weights: &[f32],
-        j64: &[u64],
-        j32: &[u32],
-        j16: &[u16],
-        j8: &[u8],
-        ends: &[u64],
-        rests: &[u64],
-    ) -> Available
-        ensures { (hs : List CandidateReg) → Computed self.order regs.now weights.now hs → length hs + length (class_in (lists_in (slices [] [] j16.now j8.now [])) self.v) ≤ 129 → result ≡ available_in (lent_to (lists_in (slices j64.now j32.now j16.now [] [])) ends.now rests.now self.v) j64.now false (offers_from hs (class_in (lists_in (slices [] [] j16.now j8.now [])) self.v) 0) }
-    {
-        let v = self.v;
-        find_available_reg(
-            self.order,
-            regs,
-            weights,
-            class_of(v, j16, j8),
-            j64,
-            ends,
-            rests,
-            from(j64, USES),
-            froms_of(v, j32, j16),
-            tos_of(v, j32, j16),
-            values_of(v, j16),
-        )
-    }
-
+impl Dequeued<'_> {
     // Whether a preferred candidate is looked for: the clear one is lighter than the first hinted one, and the flag is off.
-    fn wants_preferred(self, c: CandidateReg, weights: &[f32]) -> bool
-        ensures { (regs : List ℕ) (hs : List CandidateReg) → Computed self.order regs weights.now hs → result ≡ (lt c.preference_weight (highest_preference hs) && not self.flag) }
+    fn wants_preferred(&self, c: CandidateReg) -> bool
+        ensures { result ≡ (lt c.preference_weight (highest_preference (hinted_by self.now.order.now)) && not self.now.flag) }
     {
-        !self.flag && c.preference_weight < highest_preference(self.order, weights)
+        !self.flag && c.preference_weight < self.order.highest_preference()
     }
 
     // The clear candidate c is taken, unless another is preferred and its holders may be evicted.
-    fn with_clear(
-        self,
-        c: CandidateReg,
-        regs: &[u8],
-        weights: &[f32],
-        words: &[u64],
-        j64: &[u64],
-        j32: &[u32],
-        j16: &[u16],
-        jf: &[f32],
-        ends: &[u64],
-        rests: &[u64],
-    ) -> Decided
-        ensures { (hs : List CandidateReg) → Computed self.order regs.now weights.now hs → length hs ≤ 65 → result ≡ clear_in (lent_to (lists_in (slices j64.now j32.now j16.now [] [])) ends.now rests.now self.v) j64.now (held_in words.now) jf.now hs self.flag c }
+    fn with_clear(&self, c: CandidateReg) -> Decided
+        ensures { result ≡ clear_for self.now c }
     {
-        if !self.wants_preferred(c, weights) {
+        if !self.wants_preferred(c) {
             return Decided::Takes(c);
         }
-        let v = self.v;
-        match try_evict_for_preferred_reg(
-            c,
-            self.order,
-            regs,
-            weights,
-            j64,
-            words,
-            jf,
-            ends,
-            rests,
-            from(j64, USES),
-            froms_of(v, j32, j16),
-            tos_of(v, j32, j16),
-            values_of(v, j16),
-        ) {
+        match try_evict_for_preferred_reg(c, &self.order.hinted, &self.search) {
             Some(best) => evicts(best, true),
             None => Decided::Takes(c),
         }
     }
 
-    // The candidate whose holders cost least to evict, if there is one.
-    fn cheapest(
-        self,
-        regs: &[u8],
-        weights: &[f32],
-        words: &[u64],
-        j64: &[u64],
-        j32: &[u32],
-        j16: &[u16],
-        j8: &[u8],
-        jf: &[f32],
-        ends: &[u64],
-        rests: &[u64],
-    ) -> Option<Best>
-        ensures { (hs : List CandidateReg) → Computed self.order regs.now weights.now hs → length hs + length (class_in (lists_in (slices [] [] j16.now j8.now [])) self.v) ≤ 129 → result ≡ evict_in (lent_to (lists_in (slices j64.now j32.now j16.now [] [])) ends.now rests.now self.v) j64.now (held_in words.now) jf.now self.flag self.spill_weight None (offers_from hs (class_in (lists_in (slices [] [] j16.now j8.now [])) self.v) 0) }
-    {
-        let v = self.v;
-        try_evict(
-            self.order,
-            regs,
-            weights,
-            class_of(v, j16, j8),
-            j64,
-            words,
-            jf,
-            self.flag,
-            self.spill_weight,
-            ends,
-            rests,
-            from(j64, USES),
-            froms_of(v, j32, j16),
-            tos_of(v, j32, j16),
-            values_of(v, j16),
-        )
-    }
-
     // No candidate is clear: at stage Evict the least cost decides, or whether the spill weight is infinite; at stage Split the number is left over.
-    fn with_none_clear(
-        self,
-        regs: &[u8],
-        weights: &[f32],
-        words: &[u64],
-        j64: &[u64],
-        j32: &[u32],
-        j16: &[u16],
-        j8: &[u8],
-        jf: &[f32],
-        ends: &[u64],
-        rests: &[u64],
-    ) -> Decided
-        ensures { (hs : List CandidateReg) → Computed self.order regs.now weights.now hs → length hs + length (class_in (lists_in (slices [] [] j16.now j8.now [])) self.v) ≤ 129 → result ≡ none_clear_in (lent_to (lists_in (slices j64.now j32.now j16.now [] [])) ends.now rests.now self.v) j64.now (held_in words.now) jf.now self.flag self.spill_weight (offers_from hs (class_in (lists_in (slices [] [] j16.now j8.now [])) self.v) 0) self.stage }
+    fn with_none_clear(&self) -> Decided
+        ensures { result ≡ none_clear_for self.now }
     {
         let Stage::Evict = self.stage else {
             return Decided::Leaves;
         };
-        match self.cheapest(regs, weights, words, j64, j32, j16, j8, jf, ends, rests) {
+        match try_evict(self.order, self.flag, self.spill_weight, &self.search) {
             Some(best) => evicts(best, !(best.cost.spill_weight < self.spill_weight)),
             None if self.spill_weight == f32::INFINITY => Decided::Fails,
             None => Decided::Splits,
@@ -229,29 +135,13 @@ impl Dequeued {
     }
 
     // The decision by the candidates of the order.
-    fn in_order(
-        self,
-        regs: &[u8],
-        weights: &[f32],
-        words: &[u64],
-        j64: &[u64],
-        j32: &[u32],
-        j16: &[u16],
-        j8: &[u8],
-        jf: &[f32],
-        ends: &[u64],
-        rests: &[u64],
-    ) -> Decided
-        ensures { (hs : List CandidateReg) → Computed self.order regs.now weights.now hs → length hs ≤ 65 → length (class_in (lists_in (slices [] [] j16.now j8.now [])) self.v) ≤ 64 → result ≡ in_order (lent_to (lists_in (slices j64.now j32.now j16.now [] [])) ends.now rests.now self.v) j64.now (held_in words.now) jf.now hs (class_in (lists_in (slices [] [] j16.now j8.now [])) self.v) self.flag self.spill_weight self.stage }
+    fn in_order(&self) -> Decided
+        ensures { result ≡ decided_for self.now }
     {
-        match self.available(regs, weights, j64, j32, j16, j8, ends, rests) {
+        match find_available_reg(self.order, &self.search) {
             Available::NoCandidates => Decided::Leaves,
-            Available::Clear(c) => {
-                self.with_clear(c, regs, weights, words, j64, j32, j16, jf, ends, rests)
-            }
-            Available::NoneClear => {
-                self.with_none_clear(regs, weights, words, j64, j32, j16, j8, jf, ends, rests)
-            }
+            Available::Clear(c) => self.with_clear(c),
+            Available::NoneClear => self.with_none_clear(),
         }
     }
 }
@@ -261,27 +151,22 @@ pub fn decide(
     v: u16,
     stage: Stage,
     words: &[u64],
-    j64: &[u64],
-    j32: &[u32],
-    j16: &[u16],
-    j8: &[u8],
-    jf: &[f32],
-    ends: &[u64],
-    rests: &[u64],
+    job: LentJob<'_>,
+    table: Table<'_>,
     last: &[u8],
 ) -> Decided
-    ensures { length (class_in (lists_in (slices j64.now j32.now j16.now j8.now jf.now)) v) ≤ 64 → result ≡ decided_in (lists_in (slices j64.now j32.now j16.now j8.now jf.now)) ends.now rests.now last.now (held_in words.now) (flag_in (record_in (get_or words.now v 0))) v stage }
+    ensures { result ≡ decided_in (lists_in (slices_of job.entry)) table.entry.ends.now table.entry.rests.now last.now (held_in words.now) (flag_in (record_in (get_or words.now v 0))) v stage }
 {
     let i = v as usize;
-    let mut regs = [0u8; 65];
-    let mut weights = [0.0; 65];
-    let order = order_of(v, j16, j8, jf, last, &mut regs, &mut weights);
+    let last_reg = last_given(last, from(job.j16, SETS), v);
+    let mut order = AllocationOrder::of_class(class_of(v, job));
+    order.compute(hints_of(v, job), last_reg);
     let d = Dequeued {
-        v,
         stage,
         flag: flag_of(record_of(at(words, i))),
-        spill_weight: at(jf, i),
-        order,
+        spill_weight: at(job.jf, i),
+        order: &order,
+        search: search_of(v, words, job, table),
     };
-    d.in_order(&regs, &weights, words, j64, j32, j16, j8, jf, ends, rests)
+    d.in_order()
 }

@@ -9,7 +9,7 @@ use Rattle.job.specs.declared.Hint.{Hint}
 use Rattle.job.specs.declared.VirtRegFields.{VirtRegFields}
 use Rattle.job.specs.Model.{VirtReg}
 use Rattle.job.specs.Parser.{Parsed, refused, parsed}
-use Rattle.job.specs.Layout.{starts_from}
+use Rattle.job.specs.Layout.{starts_from, JobSlices}
 use Rattle.reader.specs.Read.{Stored, hints_of_all, segments_of_all}
 
 -- a virtual register with these fields, k hints and l segments
@@ -72,6 +72,20 @@ pub record VirtsAt (w h b : List ℕ) (f : List Float) (w' h' b' : List ℕ) (f'
       h' ≡ in16 h (map (λ (v : VirtReg). v.value_set) vs) (map (λ (x : ValueSegment). x.value) (segments_of_all vs)) (hint_ends vs) (segment_ends vs)
   pub j8 : b' ≡ in8 b (map (λ (v : VirtReg). v.class) vs) (map (λ (x : Hint). x.reg) (hints_of_all vs))
   pub jf : f' ≡ in_weights f (map (λ (v : VirtReg). v.spill_weight) vs) (map (λ (x : Hint). x.weight) (hints_of_all vs))
+
+-- ---- the same in a job's slices
+
+abbrev pub SegmentsIn : ℕ → JobSlices → JobSlices → List ValueSegment → Type 0
+SegmentsIn g B B' = SegmentsAt g B.j32 B.j16 B'.j32 B'.j16
+
+abbrev pub HintsIn : ℕ → JobSlices → JobSlices → List Hint → Type 0
+HintsIn h B B' = HintsAt h B.j8 B.jf B'.j8 B'.jf
+
+abbrev pub FieldsIn : VirtRegFields → ℕ → JobSlices → JobSlices → Type 0
+FieldsIn f i B B' = FieldsAt f i B.j32 B.j16 B.j8 B.jf B'.j32 B'.j16 B'.j8 B'.jf
+
+abbrev pub VirtsIn : JobSlices → JobSlices → List VirtReg → Type 0
+VirtsIn B B' = VirtsAt B.j32 B.j16 B.j8 B.jf B'.j32 B'.j16 B'.j8 B'.jf
 
 -- ---- the answers
 

@@ -1,14 +1,17 @@
-// The virtual registers of a job, with their hints and segments.
+// The virtual registers of a job, with their hints and segments. The readers of segments and of hints are lent only the two of a job's slices that
+// they store in, so that the others are as they were without a word: the whole job would be no plainer.
 ghost use Rattle.std.specs.Prelude.{◌≡◌, [], ◌+◌, ◌-◌, ◌/◌, ◌%◌, ◌≤◌, ◌<◌, eqb, length, drop};
 ghost use Rattle.job.specs.Load.{hint as hint_of, segment as segment_of, hint_count, segment_count, hints as hints_of, segments as segments_of, virt_reg_at, virt_reg_after};
 ghost use Rattle.job.specs.Parser.{each, if_bit};
 ghost use Rattle.reader.specs.Read.{Num, Outcome, Counted, table_of};
-ghost use Rattle.fields.specs.Virt.{HintsAt, SegmentsAt, FieldsAt, VirtsAt, VirtOut, VirtsOut, TableOut};
+ghost use Rattle.job_parts.specs.Lent.{slices_in, SameJob};
+ghost use Rattle.fields.specs.Virt.{HintsAt, HintsIn, SegmentsAt, SegmentsIn, FieldsIn, VirtsIn, VirtOut, VirtsOut, TableOut};
 
 use job::{
     CLASSES, HINT_REGS, HINT_STARTS, HINT_WEIGHTS, SEGMENT_STARTS, SETS, SIZES, TOS, VALUES,
     VirtRegFields,
 };
+use job_parts::lent_job::LentJobMut;
 use lent::put;
 use reader::read::{count, little};
 use reg_matrix::Refusal;
@@ -146,36 +149,30 @@ fn virt_reg(
     n: u16,
     h: u64,
     g: u64,
-    j32: &mut [u32],
-    j16: &mut [u16],
-    j8: &mut [u8],
-    jf: &mut [f32],
+    job: &mut LentJobMut<'_>,
 ) -> Result<(VirtRegFields, u64, u64, usize), Refusal>
     requires { (h ≤ 1024) × (g ≤ 512) }
-    ensures { VirtOut s.now (virt_reg_at regs classes n h g (drop at s.now)) h g result (HintsAt h j8.old jf.old j8.new jf.new) (SegmentsAt g j32.old j16.old j32.new j16.new) }
+    ensures same { SameJob job.old job.new }
+    ensures maps { job.new.j64.now ≡ job.old.j64.now }
+    ensures read { VirtOut s.now (virt_reg_at regs classes n h g (drop at s.now)) h g result (HintsIn h (slices_in job.old) (slices_in job.new)) (SegmentsIn g (slices_in job.old) (slices_in job.new)) }
 {
     let (f, at1) = virt_fields(s, at, classes, n)?;
-    let (hn, at2) = hint_table(s, at1, f.map, regs as u64, h, j8, jf)?;
-    let (gn, next) = segment_table(s, at2, g, j32, j16)?;
+    let (hn, at2) = hint_table(s, at1, f.map, regs as u64, h, job.j8, job.jf)?;
+    let (gn, next) = segment_table(s, at2, g, job.j32, job.j16)?;
     Ok((f, hn, gn, next))
 }
 
 // Stores the fields of the virtual register `i`.
-fn put_fields(
-    f: VirtRegFields,
-    i: usize,
-    j32: &mut [u32],
-    j16: &mut [u16],
-    j8: &mut [u8],
-    jf: &mut [f32],
-)
+fn put_fields(f: VirtRegFields, i: usize, job: &mut LentJobMut<'_>)
     requires { i < 65536 }
-    ensures { FieldsAt f i j32.old j16.old j8.old jf.old j32.new j16.new j8.new jf.new }
+    ensures same { SameJob job.old job.new }
+    ensures maps { job.new.j64.now ≡ job.old.j64.now }
+    ensures stored { FieldsIn f i (slices_in job.old) (slices_in job.new) }
 {
-    put(j32, SIZES + i, f.size);
-    put(j16, SETS + i, f.value_set);
-    put(j8, CLASSES + i, f.class);
-    put(jf, i, f.spill_weight);
+    put(job.j32, SIZES + i, f.size);
+    put(job.j16, SETS + i, f.value_set);
+    put(job.j8, CLASSES + i, f.class);
+    put(job.jf, i, f.spill_weight);
 }
 
 // The virtual registers: their fields, where the hints and the segments of each end, the hints and the segments of all. Answers how many hints and
@@ -186,24 +183,23 @@ fn virt_regs(
     count: u16,
     regs: u8,
     classes: u8,
-    j32: &mut [u32],
-    j16: &mut [u16],
-    j8: &mut [u8],
-    jf: &mut [f32],
+    job: &mut LentJobMut<'_>,
 ) -> Result<(u64, u64, usize), Refusal>
     requires { count ≤ 512 }
-    ensures { VirtsOut s.now (each (virt_reg_after regs classes) count [] (drop start s.now)) result (VirtsAt j32.old j16.old j8.old jf.old j32.new j16.new j8.new jf.new) }
+    ensures same { SameJob job.old job.new }
+    ensures maps { job.new.j64.now ≡ job.old.j64.now }
+    ensures read { VirtsOut s.now (each (virt_reg_after regs classes) count [] (drop start s.now)) result (VirtsIn (slices_in job.old) (slices_in job.new)) }
 {
     let mut at = start;
     let mut h: u64 = 0;
     let mut g: u64 = 0;
     for i in 0..count as usize {
-        let (f, hn, gn, next) = virt_reg(s, at, regs, classes, i as u16, h, g, j32, j16, j8, jf)?;
-        put_fields(f, i, j32, j16, j8, jf);
+        let (f, hn, gn, next) = virt_reg(s, at, regs, classes, i as u16, h, g, job)?;
+        put_fields(f, i, job);
         h += hn;
         g += gn;
-        put(j16, HINT_STARTS + 1 + i, h as u16);
-        put(j16, SEGMENT_STARTS + 1 + i, g as u16);
+        put(job.j16, HINT_STARTS + 1 + i, h as u16);
+        put(job.j16, SEGMENT_STARTS + 1 + i, g as u16);
         at = next;
     }
     Ok((h, g, at))
@@ -216,14 +212,13 @@ pub fn virt_table(
     stands: bool,
     regs: u8,
     classes: u8,
-    j32: &mut [u32],
-    j16: &mut [u16],
-    j8: &mut [u8],
-    jf: &mut [f32],
+    job: &mut LentJobMut<'_>,
 ) -> Result<(u16, u64, u64, usize), Refusal>
-    ensures { TableOut s.now (table_of stands 2 512 (virt_reg_after regs classes) (drop at s.now)) result (VirtsAt j32.old j16.old j8.old jf.old j32.new j16.new j8.new jf.new) }
+    ensures same { SameJob job.old job.new }
+    ensures maps { job.new.j64.now ≡ job.old.j64.now }
+    ensures read { TableOut s.now (table_of stands 2 512 (virt_reg_after regs classes) (drop at s.now)) result (VirtsIn (slices_in job.old) (slices_in job.new)) }
 {
     let (k, first) = count::<2>(s, at, stands, 512)?;
-    let (h, g, next) = virt_regs(s, first, k as u16, regs, classes, j32, j16, j8, jf)?;
+    let (h, g, next) = virt_regs(s, first, k as u16, regs, classes, job)?;
     Ok((k as u16, h, g, next))
 }

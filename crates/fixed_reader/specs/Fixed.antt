@@ -1,10 +1,11 @@
--- What reading a fixed reservation promises, in the terms of the parsers of Load.antt: its tests, and what is read. Assumes nothing.
+-- What reading a fixed reservation promises, in the terms of the parsers of Load.antt: its tests, and what is read and stored. Assumes nothing.
 use Rattle.std.specs.Prelude.{ℕ, ◌<◌, ◌≡◌, List, drop, Result, Ok, Err}
 use Rattle.reg_matrix.specs.Refused.{number_of}
 use Rattle.reg_matrix.specs.declared.Entry.{Entry}
 use Rattle.reg_matrix.specs.declared.Refusal.{Refusal}
 use Rattle.job.specs.Parser.{Parser, Parsed, refused, parsed}
-use Rattle.reader.specs.Read.{read_view, reservation_after}
+use Rattle.reader.specs.Read.{read_view, reservation_after, FixedAt}
+use Rattle.fixed_reader.specs.declared.LentFixed.{LentFixed}
 
 abbrev pub test_view : Result Entry Refusal → List ℕ → Parsed Entry
 test_view (Ok e) t = parsed e t
@@ -26,3 +27,17 @@ entry_unit (Err r) = 0
 pub record EntryAt (s : List ℕ) (at : ℕ) (ends : List ℕ) (r : Result (Entry × ℕ) Refusal) : Type 0 where
   pub view : read_view s r ≡ reservation_after ends (drop at s)
   pub unit : entry_unit r < 64
+
+-- ---- what is stored
+
+-- the reservations are stored from place 0 on
+abbrev pub FixedIn : LentFixed → LentFixed → List Entry → Type 0
+FixedIn before after =
+    FixedAt before.units.now before.froms.now before.tos.now before.uses.now after.units.now after.froms.now after.tos.now after.uses.now
+
+-- that the same slices are lent, so that what is said of them is said of the caller's
+pub record SameFixed (before after : LentFixed) : Type 0 where
+  pub units : after.units.ghost_name ≡ before.units.ghost_name
+  pub froms : after.froms.ghost_name ≡ before.froms.ghost_name
+  pub tos : after.tos.ghost_name ≡ before.tos.ghost_name
+  pub uses : after.uses.ghost_name ≡ before.uses.ghost_name

@@ -4,13 +4,22 @@
 ghost use Rattle.std.specs.Prelude.{◌≡◌, [], length, drop};
 ghost use Rattle.job.specs.Load.{fixed_fields, fixed_range, fixed_tests, reservation as reservation_of};
 ghost use Rattle.job.specs.Parser.{each};
-ghost use Rattle.reader.specs.Read.{read_view, use_number, Outcome, Counted, FixedAt, table_of};
-ghost use Rattle.fixed_reader.specs.Fixed.{EntryTested, EntryAt};
+ghost use Rattle.reader.specs.Read.{read_view, use_number, Outcome, Counted, table_of};
+ghost use Rattle.fixed_reader.specs.Fixed.{EntryTested, EntryAt, FixedIn, SameFixed};
 
 use job::FixedFields;
 use lent::{at, put};
 use reader::read::{count, little, little_if};
 use reg_matrix::{Entry, Refusal, Reservation};
+
+// The fixed reservations of a job, a slice for each of their fields: the unit, the start, the end and the use number of each.
+#[derive(Drop)]
+pub struct LentFixed<'a> {
+    pub units: &'a mut [u8],
+    pub froms: &'a mut [u32],
+    pub tos: &'a mut [u32],
+    pub uses: &'a mut [u32],
+}
 
 // The fields of the fixed reservation at `start`.
 #[tactic(auto, unfolding(job::specs::Load::fixed_fields))]
@@ -106,7 +115,7 @@ fn reservation(s: &[u8], start: usize, ends: &[u32]) -> Result<(Entry, usize), R
     Ok((e, next))
 }
 
-// A fixed use's value and 1; 0 for any other reservation.
+// A fixed use's value and 1; 0 for any other reservation. This is the number's format in lent memory, which is fixed.
 fn use_number(k: Reservation) -> u32
     ensures { result ≡ use_number k }
 {
@@ -121,22 +130,20 @@ pub fn reservations(
     s: &[u8],
     start: usize,
     count: u16,
-    units: &mut [u8],
-    froms: &mut [u32],
-    tos: &mut [u32],
-    uses: &mut [u32],
+    fixed: &mut LentFixed<'_>,
 ) -> Result<usize, Refusal>
-    ensures { Outcome s.now (each reservation_of count [] (drop start s.now)) result (FixedAt units.old froms.old tos.old uses.old units.new froms.new tos.new uses.new) }
+    ensures same { SameFixed fixed.old fixed.new }
+    ensures read { Outcome s.now (each reservation_of count [] (drop start s.now)) result (FixedIn fixed.old fixed.new) }
 {
     let mut ends = [0u32; 64];
     let mut next = start;
     for i in 0..count as usize {
         let (e, after) = reservation(s, next, &ends)?;
         put(&mut ends, e.unit as usize, e.to);
-        put(units, i, e.unit);
-        put(froms, i, e.from);
-        put(tos, i, e.to);
-        put(uses, i, use_number(e.reservation));
+        put(fixed.units, i, e.unit);
+        put(fixed.froms, i, e.from);
+        put(fixed.tos, i, e.to);
+        put(fixed.uses, i, use_number(e.reservation));
         next = after;
     }
     Ok(next)
@@ -147,14 +154,12 @@ pub fn fixed_table(
     s: &[u8],
     start: usize,
     stands: bool,
-    units: &mut [u8],
-    froms: &mut [u32],
-    tos: &mut [u32],
-    uses: &mut [u32],
+    fixed: &mut LentFixed<'_>,
 ) -> Result<(u64, usize), Refusal>
-    ensures { Counted s.now (table_of stands 2 512 reservation_of (drop start s.now)) length 512 result (FixedAt units.old froms.old tos.old uses.old units.new froms.new tos.new uses.new) }
+    ensures same { SameFixed fixed.old fixed.new }
+    ensures read { Counted s.now (table_of stands 2 512 reservation_of (drop start s.now)) length 512 result (FixedIn fixed.old fixed.new) }
 {
     let (k, first) = count::<2>(s, start, stands, 512)?;
-    let next = reservations(s, first, k as u16, units, froms, tos, uses)?;
+    let next = reservations(s, first, k as u16, fixed)?;
     Ok((k, next))
 }

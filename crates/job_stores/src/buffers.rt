@@ -1,34 +1,36 @@
 // The lent slices of a job: whether one is below its limit, and zeros up to the limits (specs/Layout.antt of the job).
-ghost use Rattle.std.specs.Prelude.{◌≡◌, [], ◌∷◌};
+ghost use Rattle.std.specs.Prelude.{◌≡◌, [], ◌∷◌, length};
 ghost use Rattle.reg_matrix.specs.Refusals.{short_buffer};
-ghost use Rattle.job.specs.Layout.{slices, load_limits};
+ghost use Rattle.job.specs.Layout.{load_limits};
+ghost use Rattle.job_parts.specs.Lent.{slices_in, SameJob};
 ghost use Rattle.job_stores.specs.Storing.{cleared};
 
+use job_parts::lent_job::LentJobMut;
 use lent::clear;
+use table_words::buffers::TableMut;
 
-// Whether one of the sizes lent is below its limit. They come in the limits' order.
+// Whether a slice of the job or of the table is below its limit. They come in the limits' order.
 #[tactic(auto, unfolding(reg_matrix::specs::Refusals::short_buffer))]
-pub fn is_short(
-    j64: usize,
-    j32: usize,
-    j16: usize,
-    j8: usize,
-    jf: usize,
-    ends: usize,
-    rests: usize,
-) -> bool
-    ensures { result ≡ short_buffer load_limits (j64 ∷ j32 ∷ j16 ∷ j8 ∷ jf ∷ ends ∷ rests ∷ []) }
+pub fn is_short(job: &LentJobMut<'_>, table: &TableMut<'_>) -> bool
+    ensures { result ≡ short_buffer load_limits (length job.now.j64.now ∷ length job.now.j32.now ∷ length job.now.j16.now ∷ length job.now.j8.now ∷ length job.now.jf.now ∷ length table.now.ends.now ∷ length table.now.rests.now ∷ []) }
 {
-    j64 < 576 || j32 < 1536 || j16 < 2067 || j8 < 2560 || jf < 1536 || ends < 2560 || rests < 2560
+    job.j64.len() < 576
+        || job.j32.len() < 1536
+        || job.j16.len() < 2067
+        || job.j8.len() < 2560
+        || job.jf.len() < 1536
+        || table.ends.len() < 2560
+        || table.rests.len() < 2560
 }
 
 // Zeros where a job is laid out, but for its fixed uses.
-pub fn clear_job(j64: &mut [u64], j32: &mut [u32], j16: &mut [u16], j8: &mut [u8], jf: &mut [f32])
-    ensures { slices j64.new j32.new j16.new j8.new jf.new ≡ cleared (slices j64.old j32.old j16.old j8.old jf.old) }
+pub fn clear_job(job: &mut LentJobMut<'_>)
+    ensures same { SameJob job.old job.new }
+    ensures after { slices_in job.new ≡ cleared (slices_in job.old) }
 {
-    clear(j64, 64);
-    clear(j32, 1536);
-    clear(j16, 2067);
-    clear(j8, 2560);
-    clear(jf, 1536);
+    clear(job.j64, 64);
+    clear(job.j32, 1536);
+    clear(job.j16, 2067);
+    clear(job.j8, 2560);
+    clear(job.jf, 1536);
 }

@@ -1,34 +1,28 @@
 // The fixed reservations of a job, put into the table one after another.
 ghost use Rattle.std.specs.Prelude.{◌≡◌};
+ghost use Rattle.table_words.specs.Buffers.{SameTable};
 ghost use Rattle.entries.specs.Reserving.{lain, cleared};
 ghost use Rattle.job_stores.specs.Storing.{reserving_all};
 
 use entries::reserve::{clear, reserve_fixed};
+use fixed_reader::LentFixed;
 use lent::at;
+use table_words::buffers::TableMut;
 
-// The table and its fixed uses with the first n reservations of the four slices, and nothing else.
-pub fn reserve_all(
-    ends: &mut [u64],
-    rests: &mut [u64],
-    words: &mut [u64],
-    units: &[u8],
-    froms: &[u32],
-    tos: &[u32],
-    uses: &[u32],
-    n: usize,
-)
-    ensures { lain ends.new rests.new words.new ≡ reserving_all units.now froms.now tos.now uses.now n (cleared (lain ends.old rests.old words.old)) }
+// The table and its fixed uses with the first n of the reservations, and nothing else.
+pub fn reserve_all(table: &mut TableMut<'_>, uses: &mut [u64], fixed: &LentFixed<'_>, n: usize)
+    ensures same { SameTable table.old table.new }
+    ensures after { lain table.new.ends.now table.new.rests.now uses.new ≡ reserving_all fixed.now.units.now fixed.now.froms.now fixed.now.tos.now fixed.now.uses.now n (cleared (lain table.old.ends.now table.old.rests.now uses.old)) }
 {
-    clear(ends, rests, words);
+    clear(table, uses);
     for i in 0..n {
         reserve_fixed(
-            ends,
-            rests,
-            words,
-            at(units, i),
-            at(froms, i),
-            at(tos, i),
-            at(uses, i),
+            table,
+            uses,
+            at(fixed.units, i),
+            at(fixed.froms, i),
+            at(fixed.tos, i),
+            at(fixed.uses, i),
         );
     }
 }

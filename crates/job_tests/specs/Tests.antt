@@ -1,6 +1,8 @@
 -- The tests of a whole job as the code makes them, by places of lent numbers. Assumes nothing.
 use Rattle.std.specs.Prelude.{ℕ, ◌+◌, ◌-◌, List, Bool, true, false, not, ◌||◌, ◌&&◌, ltb, eqb, get_or}
 use Rattle.reg_matrix.specs.Lists.{any, any_pair, count}
+use Rattle.job.specs.declared.JobHeader.{JobHeader}
+use Rattle.job.specs.Layout.{JobSlices, lists_in}
 
 -- the same number stands at two places
 abbrev pub equal_at : List ℕ → ℕ → ℕ → Bool
@@ -29,3 +31,12 @@ whole_number true b c = 10
 whole_number false true c = 11
 whole_number false false true = 12
 whole_number false false false = 0
+
+-- the number of the first of them that refuses the job of m segments in these slices, or 0. Its n fixed reservations stand in slices of their own
+unfoldable pub job_refusal : JobSlices → JobHeader → ℕ → (starts stops uses : List ℕ) → ℕ → ℕ
+job_refusal B h m starts stops uses n =
+    let b = lists_in B in
+    whole_number
+    (any_pair (equal_at b.regs) (count 0 h.regs) || any (member_twice b.class_starts b.class_regs) (count 0 h.classes))
+    (any_pair (classes_differ b.classes b.value_sets) (count 0 h.virt_regs))
+    (any (crosses_at b.froms b.tos b.values starts stops uses n) (count 0 m))

@@ -1,12 +1,17 @@
 // The tests of a whole job, over its decoded numbers: 10, 11 and 12 (document 01). Places are compared by total reads, so that nothing is asked
 // of the slices.
-ghost use Rattle.std.specs.Prelude.{◌≡◌, ℕ, ◌+◌, ◌-◌, ◌^◌, ◌<◌, Bool, ◌||◌, eqb, get_or};
+ghost use Rattle.std.specs.Prelude.{◌≡◌, ℕ, ◌+◌, ◌-◌, ◌^◌, ◌<◌, Bool, get_or};
 ghost use Rattle.reg_matrix.specs.Lists.{any, any_pair, count};
 ghost use Rattle.reg_matrix.specs.Refused.{number_in};
-ghost use Rattle.job_tests.specs.Tests.{equal_at, member_twice, classes_differ, crosses, crosses_at, whole_number};
+ghost use Rattle.job_parts.specs.Lent.{slices_of};
+ghost use Rattle.job_tests.specs.Tests.{equal_at, member_twice, classes_differ, crosses, crosses_at, job_refusal};
 
-use lent::at;
-use reg_matrix::Refusal;
+use fixed_reader::LentFixed;
+use job::{CLASSES, JobHeader, SETS, TOS, VALUES};
+use job_parts::lent_job::LentJob;
+use lent::{at, from};
+use reg_matrix::{Refusal, ValueSegment};
+use table_words::segments::{SegmentList, Segments};
 
 // Whether a place from `from` to the one before `to` passes the test.
 fn any_place<F: Fn(usize) -> bool>(from: usize, to: usize, test: F) -> bool
@@ -91,88 +96,75 @@ pub fn set_differs(classes: &[u8], groups: &[u16], n: usize) -> bool
     )
 }
 
-// The segment crosses the start or the end of a fixed use, where u is the use's number and v the one that the segment's value would have.
-fn crosses_use(u: u32, a: u32, b: u32, v: u32, from: u32, to: u32) -> bool
-    ensures { result ≡ crosses v from to a b u }
+// The segment crosses the start or the end of a fixed use, where u is the use's number.
+fn crosses_use(u: u32, a: u32, b: u32, segment: ValueSegment) -> bool
+    ensures { result ≡ crosses (segment.value + 1) segment.from segment.to a b u }
 {
-    u == v && (a < from && from < b || a < to && to < b)
+    u == segment.value as u32 + 1
+        && (a < segment.from && segment.from < b || a < segment.to && segment.to < b)
 }
 
 // The segment crosses one of the first n fixed reservations.
-fn crosses_one(
-    starts: &[u32],
-    stops: &[u32],
-    uses: &[u32],
-    n: usize,
-    v: u32,
-    from: u32,
-    to: u32,
-) -> bool
-    ensures { result ≡ any (λ k. crosses v from to (get_or starts.now k 0) (get_or stops.now k 0) (get_or uses.now k 0)) (count 0 n) }
+fn crosses_one(fixed: &LentFixed<'_>, n: usize, segment: ValueSegment) -> bool
+    ensures { result ≡ any (λ k. crosses (segment.value + 1) segment.from segment.to (get_or fixed.now.froms.now k 0) (get_or fixed.now.tos.now k 0) (get_or fixed.now.uses.now k 0)) (count 0 n) }
 {
     any_place(
         0,
         n,
         |k: usize| -> bool
-            ensures { result ≡ crosses v from to (get_or starts.entry.now k 0) (get_or stops.entry.now k 0) (get_or uses.entry.now k 0) }
-        { crosses_use(at(uses, k), at(starts, k), at(stops, k), v, from, to) },
+            ensures { result ≡ crosses (segment.value + 1) segment.from segment.to (get_or fixed.entry.now.froms.now k 0) (get_or fixed.entry.now.tos.now k 0) (get_or fixed.entry.now.uses.now k 0) }
+        {
+            crosses_use(
+                at(fixed.uses, k),
+                at(fixed.froms, k),
+                at(fixed.tos, k),
+                segment,
+            )
+        },
     )
 }
 
 // One of the first m segments crosses one of the first n fixed reservations.
-pub fn use_crossed(
-    froms: &[u32],
-    tos: &[u32],
-    values: &[u16],
-    m: usize,
-    starts: &[u32],
-    stops: &[u32],
-    uses: &[u32],
-    n: usize,
-) -> bool
-    ensures { result ≡ any (crosses_at froms.now tos.now values.now starts.now stops.now uses.now n) (count 0 m) }
+pub fn use_crossed(segments: Segments<'_>, m: usize, fixed: &LentFixed<'_>, n: usize) -> bool
+    ensures { result ≡ any (crosses_at segments.entry.froms.now segments.entry.tos.now segments.entry.values.now fixed.now.froms.now fixed.now.tos.now fixed.now.uses.now n) (count 0 m) }
 {
     any_place(
         0,
         m,
         |i: usize| -> bool
-            ensures { result ≡ crosses_at froms.entry.now tos.entry.now values.entry.now starts.entry.now stops.entry.now uses.entry.now n i }
-        {
-            let v = at(values, i) as u32 + 1;
-            crosses_one(starts, stops, uses, n, v, at(froms, i), at(tos, i))
-        },
+            ensures { result ≡ crosses_at segments.entry.froms.now segments.entry.tos.now segments.entry.values.now fixed.entry.now.froms.now fixed.entry.now.tos.now fixed.entry.now.uses.now n i }
+        { crosses_one(fixed, n, segments.segment(i)) },
     )
 }
 
-// The first of the tests 10, 11 and 12 that refuses the decoded job: of rn registers, cn classes, vn virtual registers, gn segments and en fixed
-// reservations.
+// The first of the tests 10, 11 and 12 that refuses the decoded job, of m segments and n fixed reservations, which stand in slices of their own.
+#[tactic(auto, unfolding(crate::specs::Tests::job_refusal))]
 pub fn whole_refusal(
-    maps: &[u64],
-    firsts: &[u16],
-    members: &[u8],
-    classes: &[u8],
-    groups: &[u16],
-    froms: &[u32],
-    tos: &[u32],
-    values: &[u16],
-    starts: &[u32],
-    stops: &[u32],
-    uses: &[u32],
-    rn: u8,
-    cn: u8,
-    vn: u16,
-    gn: usize,
-    en: usize,
+    job: LentJob<'_>,
+    header: JobHeader,
+    m: usize,
+    fixed: &LentFixed<'_>,
+    n: usize,
 ) -> Result<(), Refusal>
-    ensures { number_in result ≡ whole_number (any_pair (equal_at maps.now) (count 0 rn) || any (member_twice firsts.now members.now) (count 0 cn)) (any_pair (classes_differ classes.now groups.now) (count 0 vn)) (any (crosses_at froms.now tos.now values.now starts.now stops.now uses.now en) (count 0 gn)) }
+    ensures { number_in result ≡ job_refusal (slices_of job.entry) header m fixed.now.froms.now fixed.now.tos.now fixed.now.uses.now n }
 {
-    if same_map(maps, rn as usize) || register_repeats(firsts, members, cn as usize) {
+    let (regs, classes, virt_regs) = (header.regs, header.classes, header.virt_regs);
+    if same_map(job.j64, regs as usize) || register_repeats(job.j16, job.j8, classes as usize) {
         return Err(Refusal::Twin);
     }
-    if set_differs(classes, groups, vn as usize) {
+    if set_differs(
+        from(job.j8, CLASSES),
+        from(job.j16, SETS),
+        virt_regs as usize,
+    ) {
         return Err(Refusal::MixedSet);
     }
-    if use_crossed(froms, tos, values, gn, starts, stops, uses, en) {
+    let segments = Segments {
+        froms: job.j32,
+        tos: from(job.j32, TOS),
+        values: from(job.j16, VALUES),
+    };
+    if use_crossed(segments, m, fixed, n) {
         return Err(Refusal::CutUse);
     }
     Ok(())

@@ -3,7 +3,7 @@ ghost use Rattle.std.specs.Prelude.{◌≡◌};
 ghost use Rattle.std.specs.Float.{binary32};
 ghost use Rattle.std.specs.Float.Ieee.{of_bits};
 
-// A type of numbers, with its zero.
+// A type of numbers, with its zero. Each impl is its zero alone, so there is nothing left to share.
 pub trait Zero: Copy {
     ghost zero: { Self };
 

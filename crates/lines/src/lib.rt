@@ -9,6 +9,7 @@ ghost use Rattle.lines.specs.LineTexts.{lent, is_register_unit, is_spare, spare_
 
 use lent::at;
 use reg_matrix::{Entry, Reservation};
+use table_words::buffers::Table;
 use texts::{byte, number, spaced, text};
 use unit_free::is_unit_free;
 
@@ -72,16 +73,15 @@ fn is_register_unit(maps: &[u64], regs: u8, unit: u8) -> bool
 fn is_free_register_unit(
     maps: &[u64],
     regs: u8,
-    ends: &[u64],
-    rests: &[u64],
+    table: Table<'_>,
     from: u32,
     to: u32,
     unit: u8,
 ) -> bool
     requires { unit < 64 }
-    ensures { result ≡ is_spare (lent maps.now ends.now rests.now) regs from to unit }
+    ensures { result ≡ is_spare (lent maps.now table.entry.ends.now table.entry.rests.now) regs from to unit }
 {
-    is_register_unit(maps, regs, unit) && is_unit_free(ends, rests, unit, from, to).unwrap_or(false)
+    is_register_unit(maps, regs, unit) && is_unit_free(table, unit, from, to).unwrap_or(false)
 }
 
 // A unit of the spare line, where it is spare.
@@ -100,16 +100,15 @@ pub fn free_units_line(
     line: &mut [u8],
     maps: &[u64],
     regs: u8,
-    ends: &[u64],
-    rests: &[u64],
+    table: Table<'_>,
     from: u32,
     to: u32,
 ) -> usize
-    ensures { Stored line.old 0 (spare_text (lent maps.now ends.now rests.now) regs from to) line.new result }
+    ensures { Stored line.old 0 (spare_text (lent maps.now table.entry.ends.now table.entry.rests.now) regs from to) line.new result }
 {
     let mut at = text(line, 0, b"spare");
     for unit in 0..64 {
-        let spare = is_free_register_unit(maps, regs, ends, rests, from, to, unit);
+        let spare = is_free_register_unit(maps, regs, table, from, to, unit);
         at = free_unit(line, at, unit, spare);
     }
     byte(line, at, b'\n')

@@ -12,6 +12,7 @@ use allocator::{Assignment, Ending};
 use job::JobHeader;
 use lent::at;
 use reg_matrix::Refusal;
+use table_words::buffers::Table;
 use table_words::words::entry_of;
 
 // The line `refused N` into a lent line, with its length where there is room for it, as in one of 256 bytes. What there is no room for is not stored.
@@ -50,19 +51,20 @@ impl Listing {
         Listing { place, ..self }
     }
 
+    // The line that `next` is lent may be longer than 256 bytes, and std has no view of a slice as an array of a fixed length: so the length that `next`
+    // tests is what these four ask for.
     #[tactic(auto, using(crate::proofs::WalkLaws::told, crate::proofs::LineLaws::spare_room))]
     fn next_free_units(
         self,
         maps: &[u64],
-        ends: &[u64],
-        rests: &[u64],
+        table: Table<'_>,
         line: &mut [u8],
     ) -> Option<(usize, Listing)>
         requires { 256 ≤ length line.old }
-        ensures { Answered self (spare_found self.header.probe self.header.regs (lent maps.now ends.now rests.now)) line.old line.new result }
+        ensures { Answered self (spare_found self.header.probe self.header.regs (lent maps.now table.entry.ends.now table.entry.rests.now)) line.old line.new result }
     {
         let (from, to) = self.header.probe?;
-        let n = lines::free_units_line(line, maps, self.header.regs, ends, rests, from, to);
+        let n = lines::free_units_line(line, maps, self.header.regs, table, from, to);
         Some((n, self.moved(Place::End)))
     }
 
@@ -71,21 +73,20 @@ impl Listing {
         self,
         i: usize,
         maps: &[u64],
-        ends: &[u64],
-        rests: &[u64],
+        table: Table<'_>,
         line: &mut [u8],
     ) -> Option<(usize, Listing)>
         requires { 256 ≤ length line.old }
-        ensures { Answered self (entry_found i self.header (lent maps.now ends.now rests.now)) line.old line.new result }
+        ensures { Answered self (entry_found i self.header (lent maps.now table.entry.ends.now table.entry.rests.now)) line.old line.new result }
     {
         if 2560 <= i {
-            return self.next_free_units(maps, ends, rests, line);
+            return self.next_free_units(maps, table, line);
         }
-        let end = at(ends, i);
+        let end = at(table.ends, i);
         if end == 0xFFFF_FFFF_FFFF_FFFF {
-            return self.next_free_units(maps, ends, rests, line);
+            return self.next_free_units(maps, table, line);
         }
-        let n = lines::entry_line(line, entry_of(end, at(rests, i)));
+        let n = lines::entry_line(line, entry_of(end, at(table.rests, i)));
         Some((n, self.moved(Place::Entry(i + 1))))
     }
 
@@ -95,15 +96,14 @@ impl Listing {
         v: u16,
         assignment: Assignment,
         maps: &[u64],
-        ends: &[u64],
-        rests: &[u64],
+        table: Table<'_>,
         line: &mut [u8],
     ) -> Option<(usize, Listing)>
         requires { 256 ≤ length line.old }
-        ensures { Answered self (virt_reg_found v assignment self.header (lent maps.now ends.now rests.now)) line.old line.new result }
+        ensures { Answered self (virt_reg_found v assignment self.header (lent maps.now table.entry.ends.now table.entry.rests.now)) line.old line.new result }
     {
         if self.header.virt_regs <= v {
-            return self.next_entry(0, maps, ends, rests, line);
+            return self.next_entry(0, maps, table, line);
         }
         let n = result_lines::standing_line(line, v, assignment);
         Some((n, self.moved(Place::VirtReg(v + 1))))
@@ -114,40 +114,38 @@ impl Listing {
         self,
         assignment: Assignment,
         maps: &[u64],
-        ends: &[u64],
-        rests: &[u64],
+        table: Table<'_>,
         line: &mut [u8],
     ) -> Option<(usize, Listing)>
         requires { 256 ≤ length line.old }
-        ensures { Answered self (found self assignment (lent maps.now ends.now rests.now)) line.old line.new result }
+        ensures { Answered self (found self assignment (lent maps.now table.entry.ends.now table.entry.rests.now)) line.old line.new result }
     {
         match self.place {
             Place::Head => {
                 let n = result_lines::end_line(line, self.ending, self.dequeues);
                 Some((n, self.moved(Place::VirtReg(0))))
             }
-            Place::VirtReg(v) => self.next_virt_reg(v, assignment, maps, ends, rests, line),
-            Place::Entry(i) => self.next_entry(i, maps, ends, rests, line),
+            Place::VirtReg(v) => self.next_virt_reg(v, assignment, maps, table, line),
+            Place::Entry(i) => self.next_entry(i, maps, table, line),
             Place::End => None,
         }
     }
 
     // Stores the next line of the sheet from the front of the lent line, and answers its length and the position after it, or that there is none.
-    // `assignment` is the record of the virtual register `number()`; `maps` are the registers' maps of units, `ends` and `rests` the table. Refused
-    // with 15 where the lent line is below 256 bytes.
+    // `assignment` is the record of the virtual register `number()`; `maps` are the registers' maps of units. Refused with 15 where the lent line
+    // is below 256 bytes.
     pub fn next(
         self,
         assignment: Assignment,
         maps: &[u64],
-        ends: &[u64],
-        rests: &[u64],
+        table: Table<'_>,
         line: &mut [u8],
     ) -> Result<Option<(usize, Listing)>, Refusal>
-        ensures { AnsweredIfLong self (found self assignment (lent maps.now ends.now rests.now)) line.old line.new (numbered result) }
+        ensures { AnsweredIfLong self (found self assignment (lent maps.now table.entry.ends.now table.entry.rests.now)) line.old line.new (numbered result) }
     {
         if line.len() < 256 {
             return Err(Refusal::ShortBuffer);
         }
-        Ok(self.next_line(assignment, maps, ends, rests, line))
+        Ok(self.next_line(assignment, maps, table, line))
     }
 }

@@ -5,8 +5,9 @@ use mathlib.Core.Path.{◌≡◌, refl, ap, sym, subst, ◌∙◌}
 use mathlib.Core.List.{List, ◌++◌, append-nil}
 use mathlib.Core.Bool.{Bool, true, false, not}
 use lib.ListN.{length, take, drop, length-drop, drop_of_length-le}
-use lib.Seq.{drop-drop}
+use lib.Seq.{drop-drop, length-sets}
 use borrow.Rule.Slice.PartMut.{mid_of, put_mid}
+use Rattle.lent.specs.Parts.{filled}
 use Rattle.lent.proofs.Laws.{all_from}
 use borrow.Author.Tests.{lt-ltb, le-ltb}
 use Rattle.std.specs.Prelude.{Ok, Err}
@@ -85,6 +86,11 @@ module _ (s : List ℕ) (b : Lent) (sized : Sized s b) where
 
   pub tests_done : {e : Refusal} → tested_job s ≡ refused (number_of e) → LoadDone s b b (Err e)
   tests_done f = refused_done s b (tested_loads ∙ ap as_loaded f)
+
+  -- and still where the job is stored
+  pub still_uses : (B : JobSlices) (j : Job) (t : List ℕ) → tested_job s ≡ parsed j t → Stores s b.job B → 64 ≤ length B.j64
+  unfolding filled
+  still_uses B j t e st = rw (st.stored j t (fields_read j t s e)).regs (simp length-sets has_uses)
 
   kept_job :
       (B : JobSlices) (W ends rests : List ℕ) (j : Job) (t : List ℕ) {h : JobHeader} (z : TableSizes) {n f g u n' f' g' u' : List ℕ}

@@ -12,9 +12,10 @@ use Rattle.std.specs.Prelude.{Ok, Err}
 use Rattle.reg_matrix.specs.Lists.{is_nil}
 use Rattle.reg_matrix.specs.Refused.{number_of}
 use Rattle.reg_matrix.specs.declared.Refusal.{Refusal}
-use Rattle.reg_matrix.specs.declared.Refusal.TheVariants.{ShortJob, Tail, UnfitMap, OverLimit, Empty, BadPoint, Unsorted, UnknownNumber, BadWeight, Twin, MixedSet, CutUse, WrongStanding, Interference, ShortBuffer}
+use Rattle.reg_matrix.specs.declared.Refusal.TheVariants.{Tail}
 use Rattle.reg_matrix.specs.declared.Entry.{Entry}
 use Rattle.reg_matrix.specs.declared.ValueSegment.{ValueSegment}
+use Rattle.table_words.proofs.RefusedNumber.{some_number}
 use Rattle.job.specs.declared.Hint.{Hint}
 use Rattle.job.specs.declared.JobHeader.{JobHeader}
 use Rattle.job.specs.Model.{VirtReg, Job}
@@ -28,8 +29,8 @@ use Rattle.reader.specs.Read.{FixedAt, all_members, hints_of_all, segments_of_al
 use Rattle.fields.specs.Virt.{in32, in16, in8, hint_ends, segment_ends}
 use Rattle.whole_fields.specs.Whole.{SizesOf, JobAt, JobOut}
 use Rattle.reader.proofs.Tables.{segments_in_length}
-use Rattle.job_tests.specs.Tests.{whole_number}
-use Rattle.loader.specs.Loading.{tested_job, job_refusal, TestedOut}
+use Rattle.job_tests.specs.Tests.{whole_number, job_refusal}
+use Rattle.loader.specs.Loading.{tested_job, TestedOut}
 use Rattle.job_tests.proofs.WholeTests.{twin_is, mixed_is, cut_is}
 
 -- ---- the tail
@@ -199,7 +200,7 @@ numbers_are :
     → Asked j B
     → FixedAt n f t u n' f' t' u' j.fixed
     → (512 ≤ length f) × (512 ≤ length t) × (512 ≤ length u)
-    → job_refusal B.j64 B.j32 B.j16 B.j8 f' t' u' h y ≡ whole_number (twin j) (mixed_set j) (cut_use j)
+    → job_refusal B h y.segments f' t' u' y.fixed ≡ whole_number (twin j) (mixed_set j) (cut_use j)
 unfolding job_refusal
 numbers_are j h y B good e z a es d =
     let fe = good.few_fixed in
@@ -209,24 +210,6 @@ numbers_are j h y B good e z a es d =
     (cut_is j es (omega (arith, fe, d.0)) (omega (arith, fe, d.1)) (omega (arith, fe, d.2)) a.froms a.tos a.values))
 
 -- ---- the first reading's answer
-
--- a refusal has a number
-pub some_number : (e : Refusal) → number_of e ≡ 0 → ⊥
-some_number ShortJob q = omega arith
-some_number Tail q = omega arith
-some_number UnfitMap q = omega arith
-some_number OverLimit q = omega arith
-some_number Empty q = omega arith
-some_number BadPoint q = omega arith
-some_number Unsorted q = omega arith
-some_number UnknownNumber q = omega arith
-some_number BadWeight q = omega arith
-some_number Twin q = omega arith
-some_number MixedSet q = omega arith
-some_number CutUse q = omega arith
-some_number WrongStanding q = omega arith
-some_number Interference q = omega arith
-some_number ShortBuffer q = omega arith
 
 pub fields_out : (s : List ℕ) {e : Refusal} {stored : Job → Type 0} {fixed : List Entry → Type 0} → JobOut s (job_fields s) (Err e) stored → TestedOut (tested_job s) (Err e) fixed
 fields_out s o = record { parts = fields_refuse s o.parts }
@@ -240,15 +223,15 @@ module _ (s : List ℕ) (bytes : Bytes s) {h : JobHeader} {y : TableSizes} {at :
     (fixed : (512 ≤ length f) × (512 ≤ length t) × (512 ≤ length u))
     (all : length s ≤ at)
   where
-    number : whole_number (twin out.parts.0) (mixed_set out.parts.0) (cut_use out.parts.0) ≡ job_refusal B'.j64 B'.j32 B'.j16 B'.j8 f' t' u' h y
+    number : whole_number (twin out.parts.0) (mixed_set out.parts.0) (cut_use out.parts.0) ≡ job_refusal B' h y.segments f' t' u' y.fixed
     number =
         let a = out.parts.4 in
         let good = fields_good s bytes out.parts.1 in
         sym (numbers_are out.parts.0 h y B' good out.parts.2 out.parts.3 (asked out.parts.0 B B' (few out.parts.0 good out.parts.3) room a) a.reserved fixed)
 
-    pub none_out : 0 ≡ job_refusal B'.j64 B'.j32 B'.j16 B'.j8 f' t' u' h y → TestedOut (tested_job s) (Ok (h, y)) (FixedAt n f t u n' f' t' u')
+    pub none_out : 0 ≡ job_refusal B' h y.segments f' t' u' y.fixed → TestedOut (tested_job s) (Ok (h, y)) (FixedAt n f t u n' f' t' u')
     none_out w =
         record { parts = (out.parts.0, drop at s, tested_all s out.parts.1 (nothing_left s at all) (number ∙ sym w), out.parts.2, out.parts.3, out.parts.4.reserved) }
 
-    pub one_out : {e : Refusal} → number_of e ≡ job_refusal B'.j64 B'.j32 B'.j16 B'.j8 f' t' u' h y → TestedOut (tested_job s) (Err e) (FixedAt n f t u n' f' t' u')
+    pub one_out : {e : Refusal} → number_of e ≡ job_refusal B' h y.segments f' t' u' y.fixed → TestedOut (tested_job s) (Err e) (FixedAt n f t u n' f' t' u')
     one_out {e} w = record { parts = tested_one s out.parts.1 (nothing_left s at all) (number ∙ sym w) (some_number e) }

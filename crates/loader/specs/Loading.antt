@@ -1,20 +1,22 @@
 -- Loading, in the shape of the code: what is lent, what the two readings of a job promise, and what loading leaves. Assumes nothing.
-use Rattle.std.specs.Prelude.{ℕ, ◌≤◌, ◌≡◌, List, [], ◌∷◌, ◌++◌, false, not, ◌||◌, length, drop, Result, Ok, Err}
-use Rattle.reg_matrix.specs.Lists.{any, any_pair, count, is_nil}
+use Rattle.std.specs.Prelude.{ℕ, ◌≤◌, ◌≡◌, List, [], ◌∷◌, ◌++◌, false, not, length, drop, Result, Ok, Err}
+use Rattle.reg_matrix.specs.Lists.{is_nil}
 use Rattle.reg_matrix.specs.Refusals.{short_buffer}
 use Rattle.reg_matrix.specs.Table.{fresh_table}
 use Rattle.reg_matrix.specs.Layout.{max_entries, end_words, rest_words}
 use Rattle.reg_matrix.specs.Refused.{number_of, numbered}
 use Rattle.reg_matrix.specs.declared.Refusal.{Refusal}
 use Rattle.reg_matrix.specs.declared.Entry.{Entry}
+use Rattle.table_words.specs.declared.buffers.TableMut.{TableMut}
 use Rattle.job.specs.declared.JobHeader.{JobHeader}
 use Rattle.job.specs.Model.{Job}
 use Rattle.job.specs.Parser.{Parser, Parsed, refused, parsed, ◌>>=◌, ◌>>◌, done, refuse, rest}
 use Rattle.job.specs.Load.{job_fields, twin, mixed_set, cut_use, Loaded, not_loaded, loaded, load_with}
-use Rattle.job.specs.Layout.{JobSlices, slices, job_slices, lists_in, load_limits, header_of}
+use Rattle.job.specs.Layout.{JobSlices, job_slices, load_limits, header_of}
+use Rattle.job_parts.specs.declared.lent_job.LentJobMut.{LentJobMut}
+use Rattle.job_parts.specs.Lent.{slices_in}
 use Rattle.whole_fields.specs.declared.TableSizes.{TableSizes}
 use Rattle.whole_fields.specs.Whole.{SizesOf}
-use Rattle.job_tests.specs.Tests.{equal_at, member_twice, classes_differ, crosses_at, whole_number}
 
 -- ---- what is lent: the job's slices in the order of their limits, and the table's two
 
@@ -25,6 +27,9 @@ pub record Lent : Type 0 where
 
 abbrev pub lent : JobSlices → List ℕ → List ℕ → Lent
 lent b es rs = record { job = b; ends = es; rests = rs }
+
+abbrev pub lent_in : LentJobMut → TableMut → Lent
+lent_in job table = lent (slices_in job) table.ends.now table.rests.now
 
 abbrev pub sizes_of : Lent → List ℕ
 sizes_of b =
@@ -47,15 +52,6 @@ tested_job = do
   refuse 11 (mixed_set j)
   refuse 12 (cut_use j)
   done j
-
--- the number of the first of the tests 10, 11 and 12 that refuses the job in these slices, or 0. Its fixed reservations stand in slices of their own
-unfoldable pub job_refusal : (j64 j32 j16 j8 starts stops uses : List ℕ) → JobHeader → TableSizes → ℕ
-job_refusal j64 j32 j16 j8 starts stops uses h z =
-    let b = lists_in (slices j64 j32 j16 j8 []) in
-    whole_number
-    (any_pair (equal_at b.regs) (count 0 h.regs) || any (member_twice b.class_starts b.class_regs) (count 0 h.classes))
-    (any_pair (classes_differ b.classes b.value_sets) (count 0 h.virt_regs))
-    (any (crosses_at b.froms b.tos b.values starts stops uses z.fixed) (count 0 z.segments))
 
 abbrev TestedParts : Parsed Job → Result (JobHeader × TableSizes) Refusal → (List Entry → Type 0) → Type 0
 TestedParts p (Err r) fixed = p ≡ refused (number_of r)

@@ -7,6 +7,7 @@ use Rattle.reg_matrix.specs.Check.{shared_part, whole_use}
 use Rattle.reg_matrix.specs.Layout.{max_entries, max_fixed, entry_of, use_of}
 use Rattle.table_words.specs.Search.{place_of}
 use Rattle.table_words.specs.Segments.{segment_at}
+use Rattle.table_words.specs.declared.buffers.RegMatrix.{RegMatrix}
 use Rattle.reg_matrix.specs.declared.ValueSegment.{ValueSegment}
 use Rattle.reg_matrix.specs.declared.Entry.{Entry}
 use Rattle.reg_matrix.specs.declared.Reservation.{Reservation}
@@ -28,6 +29,10 @@ pub record Lent : Type 0 where
 
 abbrev pub lent : List ℕ → List ℕ → List ℕ → List ℕ → List ℕ → List ℕ → Lent
 lent es rs us fs ts vs = record { ends = es; rests = rs; uses = us; froms = fs; tos = ts; values = vs }
+
+-- the matrix, and the segments by their three lists
+abbrev pub lent_in : RegMatrix → List ℕ → List ℕ → List ℕ → Lent
+lent_in m fs ts vs = lent m.table.ends.now m.table.rests.now m.uses.now fs ts vs
 
 -- ---- what stands at a place
 

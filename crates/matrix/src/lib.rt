@@ -6,6 +6,7 @@
 use reg_matrix::Interference;
 
 pub mod check;
+mod meeting;
 
 // A position of a check: the units of the register's map that are still to be walked, the current one the lowest; the segment and the
 // entry that are compared next; 0, or one more than the place of the next fixed use under that entry; and which form is asked for.
@@ -18,7 +19,7 @@ pub struct Cursor {
     pub full: bool,
 }
 
-// One step of a check: it meets something and goes on, goes on, or ends.
+// One step of a check: it meets something and goes on, goes on, or ends. Three cases, each with its own meaning, so no Option.
 #[derive(Clone, Copy)]
 pub enum Move {
     Meets(Interference, Cursor),

@@ -14,6 +14,7 @@ use Rattle.reg_matrix.specs.Lists.{count, is_some}
 use Rattle.reg_matrix.specs.Layout.{end_words, rest_words, use_words}
 use Rattle.reg_matrix.proofs.Tests.{both, not_some}
 use Rattle.reg_matrix.proofs.Places.{padded_length, padded_read, count_length}
+use Rattle.table_words.specs.declared.buffers.LentState.{LentState}
 use Rattle.entries.specs.Moves.{words}
 use Rattle.entries.specs.Placing.{Assigned, Evicted}
 use Rattle.std.proofs.Common.{Result}
@@ -37,7 +38,7 @@ use Rattle.queue.specs.QueueWalk.{key_of, set_word}
 use Rattle.stage.proofs.QueueLaws.{tournament_length, set_tournament, key_is, size_at, has_hints}
 use Rattle.stage.proofs.ReachedMoves.{table_stands, uses_lie, assign_gives, evict_loses}
 use Rattle.moves.specs.Standing.{JobStands}
-use Rattle.moves.specs.Moving.{wide_lists, EvictReads, TakeReads, key_in, TakenBack, Taken}
+use Rattle.moves.specs.Moving.{EvictReads, TakeReads, key_in, TakenBack, Taken}
 use Rattle.moves.proofs.Shares.{froms_share, tos_share}
 
 -- ---- lists
@@ -51,7 +52,7 @@ module _ {A : Type 0} where
 
 -- what moves read, of a job that stands in its slices
 module _ (j : Job) (B : JobSlices) (b : JobStands j (lists_in B)) where
-  pub evict_reads : EvictReads j (wide_lists B)
+  pub evict_reads : EvictReads j (lists_in B)
   evict_reads =
       record {
         regs = b.reads.regs;
@@ -62,7 +63,7 @@ module _ (j : Job) (B : JobSlices) (b : JobStands j (lists_in B)) where
         tos_are = b.reads.tos;
       }
 
-  pub take_reads : TakeReads j (wide_lists B)
+  pub take_reads : TakeReads j (lists_in B)
   take_reads =
       record {
         regs = b.reads.regs;
@@ -129,15 +130,17 @@ module _ (j : Job) (s : State) (g : Good j s) where
 -- ---- a number loses its register
 
 pub taken_back :
-    (v reg : ℕ) (B : JobBuffers) (ends rests queue ends' rests' queue' own : List ℕ) (m : ℕ) (uses : List ℕ) (r : Result (Unit {0}) Refusal)
+    (v reg : ℕ) (B : JobBuffers) (S S' : LentState) (ends' rests' own : List ℕ) (m : ℕ) (uses : List ℕ) (r : Result (Unit {0}) Refusal)
     → own ≡ tos_in B v
     → m ≡ get_or B.regs reg 0
     → uses ≡ B.fixed_uses
-    → Evicted v m uses own (words ends rests) (words ends' rests') r
-    → queue' ≡ set_word v (key_in B v Evict + 1) queue
-    → TakenBack v reg B ends rests queue ends' rests' queue'
+    → Evicted v m uses own (words S.ends.now S.rests.now) (words ends' rests') r
+    → S'.ends.now ≡ ends'
+    → S'.rests.now ≡ rests'
+    → S'.queue.now ≡ set_word v (key_in B v Evict + 1) S.queue.now
+    → TakenBack v reg B S S'
 unfolding lose
-taken_back v reg B ends rests queue ends' rests' queue' own m uses r po pm pu ev pq =
+taken_back v reg B S S' ends' rests' own m uses r po pm pu ev pe pr pq =
     record {
       reached =
           λ j s t reach e mv c held is.
@@ -148,15 +151,15 @@ taken_back v reg B ends rests queue ends' rests' queue' own m uses r po pm pu ev
           po ∙ ap (λ (l : List ℕ). share_of l v B.tos) e.segment_starts.1 ∙ ap (share_of ((job_buffers j).segment_starts ++ e.segment_starts.0) v) e.tos_are.1
           ∙ tos_share j v k.0 e.segment_starts.0 e.tos_are.0 in
           let done =
-          evict_loses j s g t.ends t.rests e.fixed_uses.0 uses (words ends rests) (words ends' rests')
-          (table_stands j s g ends rests t.ends t.rests mv.table.ends_are mv.table.rests_are)
+          evict_loses j s g t.ends t.rests e.fixed_uses.0 uses (words S.ends.now S.rests.now) (words ends' rests')
+          (table_stands j s g S.ends.now S.rests.now t.ends t.rests mv.table.ends_are mv.table.rests_are)
           (uses_lie j s g uses e.fixed_uses.0 (pu ∙ uses_are j B.fixed_uses e.fixed_uses))
           v m [] own mine c
           (pm ∙ ap (λ (n : ℕ). get_or B.regs n 0) (sym is) ∙ units_read j s g B.regs e.regs c.reg small)
           r held ev in
           record {
-            table = record { ends_are = done.stands.ends_are; rests_are = done.stands.rests_are };
-            queue_is = pq ∙ queued_at_lem j s g (lose j v c.reg s) v k.0 t.queue queue mv.queue_is Evict refl B e.hint_starts e.sizes_are;
+            table = record { ends_are = pe ∙ done.stands.ends_are; rests_are = pr ∙ done.stands.rests_are };
+            queue_is = pq ∙ queued_at_lem j s g (lose j v c.reg s) v k.0 t.queue S.queue.now mv.queue_is Evict refl B e.hint_starts e.sizes_are;
           };
     }
 
@@ -174,19 +177,21 @@ last_set j s g v known c f lt last is =
     w t = last_word (get_or s.last t none)
 
 pub taken :
-    (v reg : ℕ) (B : JobBuffers) (ends rests queue last ends' rests' queue' last' from to : List ℕ) (m : ℕ) (uses : List ℕ) (r : Result (Unit {0}) Refusal) (k w : ℕ)
+    (v reg : ℕ) (B : JobBuffers) (S : LentState) (last : List ℕ) (S' : LentState) (last' ends' rests' from to : List ℕ) (m : ℕ) (uses : List ℕ) (r : Result (Unit {0}) Refusal) (k w : ℕ)
     → from ≡ froms_in B v
     → to ≡ tos_in B v
     → m ≡ get_or B.regs reg 0
     → uses ≡ B.fixed_uses
-    → Assigned v m uses from to (words ends rests) (words ends' rests') r
-    → queue' ≡ set_word v 0 queue
+    → Assigned v m uses from to (words S.ends.now S.rests.now) (words ends' rests') r
+    → S'.ends.now ≡ ends'
+    → S'.rests.now ≡ rests'
+    → S'.queue.now ≡ set_word v 0 S.queue.now
     → k ≡ get_or B.value_sets v 0
     → (reg < 255 → w ≡ reg + 1)
     → last' ≡ set last k w
-    → Taken v reg B ends rests queue last ends' rests' queue' last'
+    → Taken v reg B S last S' last'
 unfolding give job_buffers virt_reg
-taken v reg B ends rests queue last ends' rests' queue' last' from to m uses r k w pf pt pm pu pa pq pk pw pl =
+taken v reg B S last S' last' ends' rests' from to m uses r k w pf pt pm pu pa pe pr pq pk pw pl =
     record {
       reached =
           λ j s t reach e st known free names clear c f is.
@@ -202,8 +207,8 @@ taken v reg B ends rests queue last ends' rests' queue' last' from to m uses r k
           ∙ tos_share j v known e.segment_starts.0 e.tos_are.0 in
           let idle : Idle j s v = record { known = known; holds_nothing = not_some (held_by s v) u.0; stays = u.1 } in
           let done =
-          assign_gives j s g t.ends t.rests e.fixed_uses.0 uses (words ends rests) (words ends' rests')
-          (table_stands j s g ends rests t.ends t.rests st.moves.table.ends_are st.moves.table.rests_are)
+          assign_gives j s g t.ends t.rests e.fixed_uses.0 uses (words S.ends.now S.rests.now) (words ends' rests')
+          (table_stands j s g S.ends.now S.rests.now t.ends t.rests st.moves.table.ends_are st.moves.table.rests_are)
           (uses_lie j s g uses e.fixed_uses.0 (pu ∙ uses_are j B.fixed_uses e.fixed_uses))
           v m from to mine' (candidate reg zero_weight)
           (pm ∙ units_read j s g B.regs e.regs reg small)
@@ -213,10 +218,10 @@ taken v reg B ends rests queue last ends' rests' queue' last' from to m uses r k
                 record {
                   table =
                       record {
-                        ends_are = done.stands.ends_are ∙ sym (ap (λ (n : ℕ). end_words (give j v (candidate n zero_weight) false s).table ++ t.ends) is);
-                        rests_are = done.stands.rests_are ∙ sym (ap (λ (n : ℕ). rest_words (give j v (candidate n zero_weight) false s).table ++ t.rests) is);
+                        ends_are = pe ∙ done.stands.ends_are ∙ sym (ap (λ (n : ℕ). end_words (give j v (candidate n zero_weight) false s).table ++ t.ends) is);
+                        rests_are = pr ∙ done.stands.rests_are ∙ sym (ap (λ (n : ℕ). rest_words (give j v (candidate n zero_weight) false s).table ++ t.rests) is);
                       };
-                  queue_is = pq ∙ unqueued j s g (give j v c f s) v known t.queue queue st.moves.queue_is refl;
+                  queue_is = pq ∙ unqueued j s g (give j v c f s) v known t.queue S.queue.now st.moves.queue_is refl;
                 };
             last_is =
                 pl ∙ ap (λ (n : ℕ). set last n w) (pk ∙ sets_read j s g B.value_sets e.value_sets v known) ∙ ap (set last (virt_reg j v).value_set) (pw (omega arith) ∙ ap (λ (n : ℕ). n + 1) (sym is))

@@ -4,7 +4,8 @@ use Rattle.std.specs.Prelude.{ℕ, ◌+◌, ◌<◌, ◌≡◌, List, [], Bool, 
 use Rattle.std.proofs.Math.Option.{some}
 use Rattle.lent.specs.Parts.{Begins}
 use Rattle.job.specs.Model.{Job}
-use Rattle.job.specs.Layout.{JobBuffers, job_buffers, JobSlices, slices, lists_in}
+use Rattle.table_words.specs.declared.buffers.LentState.{LentState}
+use Rattle.job.specs.Layout.{JobBuffers, job_buffers}
 use Rattle.allocator.specs.declared.CandidateReg.{CandidateReg}
 use Rattle.allocator.specs.declared.Stage.{Stage}
 use Rattle.allocator.specs.declared.Assignment.TheVariants.{Dead}
@@ -17,10 +18,6 @@ use Rattle.record_words.specs.Words.{record_word}
 use Rattle.decisions.specs.declared.Decided.{Decided}
 use Rattle.decisions.specs.declared.Decided.TheVariants.{Leaves, Takes, Evicts, Splits, Fails}
 use Rattle.moves.specs.Standing.{Moves, Stands}
-
--- a job's lists in the slices that carrying out reads: those of 64, 32 and 16 bits
-abbrev pub wide_lists : JobSlices → JobBuffers
-wide_lists B = lists_in (slices B.j64 B.j32 B.j16 [] [])
 
 -- the lists that an eviction reads
 pub record EvictReads (j : Job) (B : JobBuffers) : Type 0 where
@@ -45,31 +42,31 @@ abbrev pub key_in : JobBuffers → ℕ → Stage → ℕ
 key_in B v q = key_of v (ltb (get_or B.hint_starts v 0) (get_or B.hint_starts (v + 1) 0)) (get_or B.sizes v 0) q
 
 -- v, which holds the register, loses it and is queued at stage Evict
-pub record TakenBack (v reg : ℕ) (B : JobBuffers) (ends rests queue ends' rests' queue' : List ℕ) : Type 0 where
+pub record TakenBack (v reg : ℕ) (B : JobBuffers) (before after : LentState) : Type 0 where
   pub reached :
       (j : Job) (s : State) (t : StateBuffers)
       → Reached j s
       → EvictReads j B
-      → Moves j s t ends rests queue
+      → Moves j s t before.ends.now before.rests.now before.queue.now
       → (c : CandidateReg)
       → held_by s v ≡ some c
       → c.reg ≡ reg
-      → Moves j (lose j v c.reg s) t ends' rests' queue'
+      → Moves j (lose j v c.reg s) t after.ends.now after.rests.now after.queue.now
 
 -- v, which holds nothing, takes a register that it may have and that is clear
-pub record Taken (v reg : ℕ) (B : JobBuffers) (ends rests queue last ends' rests' queue' last' : List ℕ) : Type 0 where
+pub record Taken (v reg : ℕ) (B : JobBuffers) (before : LentState) (last : List ℕ) (after : LentState) (last' : List ℕ) : Type 0 where
   pub reached :
       (j : Job) (s : State) (t : StateBuffers)
       → Reached j s
       → TakeReads j B
-      → Stands j s t ends rests queue last
+      → Stands j s t before.ends.now before.rests.now before.queue.now last
       → v < length j.virt_regs
       → T (is_unassigned s v)
       → T (named j v reg)
       → check_of j s v reg ≡ []
       → (c : CandidateReg) (f : Bool)
       → c.reg ≡ reg
-      → Stands j (give j v c f s) t ends' rests' queue' last'
+      → Stands j (give j v c f s) t after.ends.now after.rests.now after.queue.now last'
 
 -- v is left over, back in the queue with this key, or off the queue
 abbrev pub PassedParts : Decided → ℕ → ℕ → List ℕ → List ℕ → List ℕ → List ℕ → Type 0

@@ -5,7 +5,7 @@
 ghost use Rattle.std.specs.Prelude.{◌≡◌, ℕ};
 ghost use Rattle.narrow.specs.Cut.{cut};
 
-// A type of numbers that are narrower than 64 bits.
+// A type of numbers that are narrower than 64 bits. Each impl is one line on its own type's conversion and greatest number.
 pub trait Narrow {
     ghost greatest: { ℕ };
 

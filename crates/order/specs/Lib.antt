@@ -1,1 +1,3 @@
+pub mod Marks
+pub mod Hinted
 pub mod OrderWalk

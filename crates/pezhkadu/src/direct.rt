@@ -2,18 +2,21 @@
 ghost use Rattle.std.specs.Float.{binary32};
 ghost use Rattle.std.specs.Float.Ieee.{of_bits};
 ghost use Rattle.reg_matrix.specs.Refused.{number_in};
-ghost use Rattle.job.specs.Layout.{slices};
-ghost use Rattle.run_loop.specs.Running.{lent_state};
+ghost use Rattle.job_parts.specs.Lent.{slices_of};
+ghost use Rattle.table_words.specs.Buffers.{SameState};
+ghost use Rattle.run_loop.specs.Running.{state_in};
 ghost use Rattle.allocator.specs.Calls.{placing};
 ghost use Rattle.calls.specs.Calling.{sizes_of};
 ghost use Rattle.words.specs.Words.{words_short};
 ghost use Rattle.pezhkadu.specs.Calling.{Called, EvictCalled};
 
 use calls::direct::{Eviction, Placement};
+use job_parts::lent_job::LentJob;
 use lent::put;
 use narrow::Narrow;
 use record_words::{put_record, record_at};
 use reg_matrix::Refusal;
+use table_words::buffers::LentState;
 use words::header::{header_of, short_words};
 
 // Places the virtual register v in the register, with the weight of these binary32 bits. A refusal changes nothing: 15 where a slice is short, 8 where
@@ -25,17 +28,12 @@ pub fn pezhkadu_assign(
     v: u64,
     reg: u64,
     weight: u64,
-    j64: &[u64],
-    j32: &[u32],
-    j16: &[u16],
-    j8: &[u8],
-    jf: &[f32],
-    ends: &mut [u64],
-    rests: &mut [u64],
-    queue: &mut [u64],
+    job: LentJob<'_>,
+    state: &mut LentState<'_>,
     last: &mut [u8],
 ) -> Result<(), Refusal>
-    ensures { Called (words_short header.now records.old) header.now (slices j64.now j32.now j16.now j8.now jf.now) (placing (sizes_of (slices j64.now j32.now j16.now j8.now jf.now) (lent_state ends.old rests.old queue.old last.old)) v reg (of_bits binary32 weight)) (lent_state ends.old rests.old queue.old last.old) records.old (lent_state ends.new rests.new queue.new last.new) records.new (number_in result) }
+    ensures same { SameState state.old state.new }
+    ensures called { Called (words_short header.now records.old) header.now (slices_of job.entry) (placing (sizes_of (slices_of job.entry) (state_in state.old last.old)) v reg (of_bits binary32 weight)) (state_in state.old last.old) records.old (state_in state.new last.new) records.new (number_in result) }
 {
     if short_words(header, records) {
         return Err(Refusal::ShortBuffer);
@@ -46,7 +44,7 @@ pub fn pezhkadu_assign(
     let asked = Placement { v, reg, weight };
     let known = header_of(header);
     let a = record_at(records, v);
-    let after = asked.place(a, known, j64, j32, j16, j8, jf, ends, rests, queue, last)?;
+    let after = asked.place(a, known, job, state, last)?;
     put_record(records, v, after);
     Ok(())
 }
@@ -57,18 +55,13 @@ pub fn pezhkadu_evict(
     header: &[u64],
     records: &mut [u64],
     v: u64,
-    j64: &[u64],
-    j32: &[u32],
-    j16: &[u16],
-    j8: &[u8],
-    jf: &[f32],
-    ends: &mut [u64],
-    rests: &mut [u64],
-    queue: &mut [u64],
+    job: LentJob<'_>,
+    state: &mut LentState<'_>,
     last: &[u8],
     answer: &mut [u64],
 ) -> Result<(), Refusal>
-    ensures { EvictCalled header.now (slices j64.now j32.now j16.now j8.now jf.now) v (lent_state ends.old rests.old queue.old last.now) records.old answer.old (lent_state ends.new rests.new queue.new last.now) records.new answer.new (number_in result) }
+    ensures same { SameState state.old state.new }
+    ensures called { EvictCalled header.now (slices_of job.entry) v (state_in state.old last.now) records.old answer.old (state_in state.new last.now) records.new answer.new (number_in result) }
 {
     if short_words(header, records) {
         return Err(Refusal::ShortBuffer);
@@ -80,7 +73,7 @@ pub fn pezhkadu_evict(
     let asked = Eviction { v };
     let known = header_of(header);
     let a = record_at(records, v);
-    let (after, reg) = asked.evict(a, known, j64, j32, j16, j8, jf, ends, rests, queue, last)?;
+    let (after, reg) = asked.evict(a, known, job, state, last)?;
     put_record(records, v, after);
     put(answer, 0, reg as u64);
     Ok(())

@@ -6,6 +6,7 @@ ghost use Rattle.results.specs.Reading.{standing_found, LineCalled};
 
 use reg_matrix::Refusal;
 use results::{sheet_line, standing};
+use table_words::buffers::Table;
 
 // How the virtual register v stands: 0 it waits, 1 it is left over, 256 + r it holds the register r. Refused with 15 where a slice is short, with 8
 // where there is no such number.
@@ -24,14 +25,11 @@ pub fn pezhkadu_sheet_line(
     answer: &[u64],
     position: u64,
     maps: &[u64],
-    ends: &[u64],
-    rests: &[u64],
+    table: Table<'_>,
     line: &mut [u8],
     next: &mut [u64],
 ) -> Result<(), Refusal>
-    ensures { LineCalled header.now records.now answer.now position (lent maps.now ends.now rests.now) line.old next.old line.new next.new (number_in result) }
+    ensures { LineCalled header.now records.now answer.now position (lent maps.now table.entry.ends.now table.entry.rests.now) line.old next.old line.new next.new (number_in result) }
 {
-    sheet_line(
-        header, records, answer, position, maps, ends, rests, line, next,
-    )
+    sheet_line(header, records, answer, position, maps, table, line, next)
 }

@@ -9,6 +9,8 @@ ghost use Rattle.words.specs.Words.{words_short};
 ghost use Rattle.pezhkadu.specs.Calling.{Called, EvictCalled};
 
 use crate::number;
+use job_parts::lent_job::LentJob;
+use table_words::buffers::LentState;
 
 // Places the virtual register v in the register, with the weight of these binary32 bits. The answer is 0, or the number of the refusal, and then
 // nothing is changed: 15 where a slice is short, 8 where there is no such number or register or v may not have it, 9 where the weight is infinite, no
@@ -32,8 +34,16 @@ pub extern "C" fn pezhkadu_assign(
 ) -> u64
     ensures { Called (words_short header.now records.old) header.now (slices j64.now j32.now j16.now j8.now jf.now) (placing (sizes_of (slices j64.now j32.now j16.now j8.now jf.now) (lent_state ends.old rests.old queue.old last.old)) v reg (of_bits binary32 weight)) (lent_state ends.old rests.old queue.old last.old) records.old (lent_state ends.new rests.new queue.new last.new) records.new result }
 {
+    let job = LentJob {
+        j64,
+        j32,
+        j16,
+        j8,
+        jf,
+    };
+    let mut state = LentState { ends, rests, queue };
     number(pezhkadu::direct::pezhkadu_assign(
-        header, records, v, reg, weight, j64, j32, j16, j8, jf, ends, rests, queue, last,
+        header, records, v, reg, weight, job, &mut state, last,
     ))
 }
 
@@ -57,7 +67,13 @@ pub extern "C" fn pezhkadu_evict(
 ) -> u64
     ensures { EvictCalled header.now (slices j64.now j32.now j16.now j8.now jf.now) v (lent_state ends.old rests.old queue.old last.now) records.old answer.old (lent_state ends.new rests.new queue.new last.now) records.new answer.new result }
 {
-    number(pezhkadu::direct::pezhkadu_evict(
-        header, records, v, j64, j32, j16, j8, jf, ends, rests, queue, last, answer,
-    ))
+    let job = LentJob {
+        j64,
+        j32,
+        j16,
+        j8,
+        jf,
+    };
+    let mut state = LentState { ends, rests, queue };
+    number(pezhkadu::direct::pezhkadu_evict(header, records, v, job, &mut state, last, answer))
 }

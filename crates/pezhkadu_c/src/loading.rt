@@ -4,6 +4,8 @@ ghost use Rattle.run_loop.specs.Running.{lent_state};
 ghost use Rattle.pezhkadu.specs.Loading.{LoadCalled};
 
 use crate::number;
+use job_parts::lent_job::LentJobMut;
+use table_words::buffers::LentState;
 
 // Loads the job of these bytes: its header and the records as they start out into words, the job, the table, the queue and the last registers into
 // the other slices. The answer is 0, or the number of the refusal, and then nothing is changed: 15 where a slice is short, then the job's length (4),
@@ -25,7 +27,13 @@ pub extern "C" fn pezhkadu_load(
 ) -> u64
     ensures { LoadCalled bytes.now header.old records.old (slices j64.old j32.old j16.old j8.old jf.old) (lent_state ends.old rests.old queue.old last.old) header.new records.new (slices j64.new j32.new j16.new j8.new jf.new) (lent_state ends.new rests.new queue.new last.new) result }
 {
-    number(pezhkadu::loading::pezhkadu_load(
-        bytes, header, records, j64, j32, j16, j8, jf, ends, rests, queue, last,
-    ))
+    let mut job = LentJobMut {
+        j64,
+        j32,
+        j16,
+        j8,
+        jf,
+    };
+    let mut state = LentState { ends, rests, queue };
+    number(pezhkadu::loading::pezhkadu_load(bytes, header, records, &mut job, &mut state, last))
 }

@@ -4,6 +4,7 @@ ghost use Rattle.lines.specs.LineTexts.{lent};
 ghost use Rattle.results.specs.Reading.{standing_answer, LineCalled};
 
 use crate::number;
+use table_words::buffers::Table;
 
 // How the virtual register v stands: 0 it waits, 1 it is left over, 256 + r it holds the register r. Refused with 15 where a slice is short, with 8
 // where there is no such number.
@@ -35,7 +36,8 @@ pub extern "C" fn pezhkadu_sheet_line(
 ) -> u64
     ensures { LineCalled header.now records.now answer.now position (lent maps.now ends.now rests.now) line.old next.old line.new next.new result }
 {
+    let table = Table { ends, rests };
     number(pezhkadu::reading::pezhkadu_sheet_line(
-        header, records, answer, position, maps, ends, rests, line, next,
+        header, records, answer, position, maps, table, line, next,
     ))
 }

@@ -1,7 +1,7 @@
 // Writes the sheet of a job's bytes to a descriptor, line by line. What is written is what the crate sheets says; here is what moves it, and counts it.
 #![tactic(auto)]
 
-ghost use Rattle.std.specs.Prelude.{◌≤◌, length};
+ghost use Rattle.std.specs.Prelude.{length};
 ghost use Rattle.lent.specs.Parts.{part};
 ghost use Rattle.reg_matrix.specs.Refused.{numbered};
 ghost use Rattle.allocator.specs.Sheet.{printed};
@@ -10,12 +10,14 @@ ghost use Rattle.sheets.specs.Printing.{shown};
 ghost use Rattle.printer.specs.Writing.{WrittenOf, lines_size};
 
 use io::write_all;
+use job_parts::lent_job::LentJobMut;
 use job_sheet::begin;
 use lent::part;
 use listing::Listing;
 use listing::sheet::refused;
 use reg_matrix::Refusal;
 use sheets::sheet::next;
+use table_words::buffers::{LentState, Table};
 
 // What was written: whether all of it, and of how many bytes the writes were that succeeded. Both always count, so this is no Option or Result.
 #[derive(Clone, Copy, PartialEq, Eq, Debug)]
@@ -47,18 +49,17 @@ fn write_lines(
     fd: i32,
     position: Listing,
     maps: &[u64],
-    ends: &[u64],
-    rests: &[u64],
+    table: Table<'_>,
     words: &[u64],
-    line: &mut [u8],
+    line: &mut [u8; 256],
 ) -> Written
-    requires { 256 ≤ length line.old }
-    ensures { WrittenOf (lines_size position (lent maps.now ends.now rests.now) words.now) result }
+    ensures { WrittenOf (lines_size position (lent maps.now table.entry.ends.now table.entry.rests.now) words.now) result }
 {
     let mut c = position;
     let mut bytes: usize = 0;
+    // a `for` is no plainer: a line comes with the position after it, and an iterator would keep the line lent
     loop {
-        match next(c, maps, ends, rests, words, line) {
+        match next(c, maps, table, words, line) {
             Ok(None) => return Written { whole: true, bytes },
             // not met: the lent line has 256 bytes
             Err(_) => return Written {
@@ -85,20 +86,18 @@ fn write_printing(
     fd: i32,
     printing: Result<Listing, Refusal>,
     maps: &[u64],
-    ends: &[u64],
-    rests: &[u64],
+    table: Table<'_>,
     words: &[u64],
-    line: &mut [u8],
+    line: &mut [u8; 256],
 ) -> Written
-    requires { 256 ≤ length line.old }
-    ensures { WrittenOf (length (shown (numbered printing) (lent maps.now ends.now rests.now) words.now)) result }
+    ensures { WrittenOf (length (shown (numbered printing) (lent maps.now table.entry.ends.now table.entry.rests.now) words.now)) result }
 {
     match printing {
         Err(r) => {
             let size = refused(r.number(), line);
             write_front(fd, line, size)
         }
-        Ok(position) => write_lines(fd, position, maps, ends, rests, words, line),
+        Ok(position) => write_lines(fd, position, maps, table, words, line),
     }
 }
 
@@ -119,9 +118,18 @@ pub fn write_sheet(fd: i32, s: &[u8]) -> Written
     let mut last = [0u8; 512];
     let mut words = [0u64; 512];
     let mut line = [0u8; 256];
-    let printing = begin(
-        s, &mut j64, &mut j32, &mut j16, &mut j8, &mut jf, &mut ends, &mut rests, &mut queue,
-        &mut last, &mut words,
-    );
-    write_printing(fd, printing, &j64, &ends, &rests, &words, &mut line)
+    let mut job = LentJobMut {
+        j64: &mut j64,
+        j32: &mut j32,
+        j16: &mut j16,
+        j8: &mut j8,
+        jf: &mut jf,
+    };
+    let mut state = LentState {
+        ends: &mut ends,
+        rests: &mut rests,
+        queue: &mut queue,
+    };
+    let printing = begin(s, &mut job, &mut state, &mut last, &mut words);
+    write_printing(fd, printing, job.j64, state.as_table(), &words, &mut line)
 }

@@ -16,7 +16,7 @@ use Rattle.lent.proofs.Laws.{sets_append}
 use Rattle.listing.specs.declared.Listing.{Listing}
 use Rattle.std.specs.Prelude.{Option, Some, None, Result, Ok, Err}
 use Rattle.texts.specs.Texts.{Stored}
-use Rattle.lines.specs.LineTexts.{Lent}
+use Rattle.lines.specs.LineTexts.{Lent, lent}
 use Rattle.listing.specs.Walk.{line_limit}
 use Rattle.listing.proofs.LineLaws.{refused_room}
 use Rattle.sheets.specs.Printing.{lines_lent, shown, LeftToPrint, Begun, NextLine}
@@ -118,14 +118,20 @@ module _ (p : Result Listing ℕ) (l : Lent) (words out out' : List ℕ) (n : �
       let e : lines_text c l words ≡ shown p l words = sym (ap (λ (x : Result Listing ℕ). shown x l words) told) in
       record { size = k.size ∙ ap (λ (x : List ℕ). length x) e; stored = k.stored ∙ ap (sets out 0) e }
 
--- ---- the whole
+-- ---- the whole, whose lines are read from the job and the table where `begin` left them
 
 pub sheet_printed :
     (bytes : List ℕ) (B : JobSlices) (S : StateBuffers) (W : List ℕ) (B' : JobSlices) (S' : StateBuffers) (W' out out' : List ℕ) (n : ℕ) (r : Result Listing ℕ)
     → Begun bytes B S W B' S' W' r
-    → ShownPrinted r (lines_lent B' S') W' out out' n
+    → (maps ends rests : List ℕ)
+    → maps ≡ B'.j64
+    → ends ≡ S'.ends
+    → rests ≡ S'.rests
+    → ShownPrinted r (lent maps ends rests) W' out out' n
     → Printed bytes B S W B' S' W' out out' n
-sheet_printed bytes B S W B' S' W' out out' n r d k =
+sheet_printed bytes B S W B' S' W' out out' n r d maps ends rests maps_are ends_are rests_are read =
+    let same : lent maps ends rests ≡ lines_lent B' S' = rw (maps_are, ends_are, rests_are) refl in
+    let k : ShownPrinted r (lines_lent B' S') W' out out' n = subst (λ (l : Lent). ShownPrinted r l W' out out' n) same read in
     record {
       answer = r;
       begun = d;

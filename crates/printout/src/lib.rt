@@ -1,19 +1,22 @@
 // The whole printed sheet of a job's bytes in one lent buffer (01, "The printed sheet"), for callers that have room for it.
 #![tactic(auto)]
 
-ghost use Rattle.std.specs.Prelude.{◌+◌, ◌≤◌, ◌<◌, length};
+ghost use Rattle.std.specs.Prelude.{◌+◌, ◌<◌, length};
 ghost use Rattle.reg_matrix.specs.Refused.{numbered};
-ghost use Rattle.job.specs.Layout.{slices};
-ghost use Rattle.run_loop.specs.Running.{lent_state};
+ghost use Rattle.table_words.specs.Buffers.{SameState};
+ghost use Rattle.job_parts.specs.Lent.{slices_in, SameJob};
+ghost use Rattle.run_loop.specs.Running.{state_in};
 ghost use Rattle.lines.specs.LineTexts.{lent};
 ghost use Rattle.printout.specs.Whole.{Appended, LinesPrinted, ShownPrinted, Printed};
 
+use job_parts::lent_job::LentJobMut;
 use job_sheet::begin;
 use lent::{part, put};
 use listing::Listing;
 use listing::sheet::refused;
 use reg_matrix::Refusal;
 use sheets::sheet::next;
+use table_words::buffers::{LentState, Table};
 
 // Stores a text from place `at` on, and gives the place after it. That of the crate texts gives no place past the end of a full line; here it is one, since
 // what the whole sheet would take is counted.
@@ -31,19 +34,18 @@ fn text(out: &mut [u8], at: usize, bytes: &[u8]) -> usize
 fn print_from(
     position: Listing,
     maps: &[u64],
-    ends: &[u64],
-    rests: &[u64],
+    table: Table<'_>,
     words: &[u64],
-    line: &mut [u8],
+    line: &mut [u8; 256],
     out: &mut [u8],
 ) -> usize
-    requires { 256 ≤ length line.old }
-    ensures { LinesPrinted position (lent maps.now ends.now rests.now) words.now out.old out.new result }
+    ensures { LinesPrinted position (lent maps.now table.entry.ends.now table.entry.rests.now) words.now out.old out.new result }
 {
     let mut c = position;
     let mut at: usize = 0;
+    // a `for` is no plainer: a line comes with the position after it, and an iterator would keep the line lent
     loop {
-        match next(c, maps, ends, rests, words, line) {
+        match next(c, maps, table, words, line) {
             Ok(None) => return at,
             // not met: the lent line has 256 bytes
             Err(_) => return at,
@@ -59,12 +61,11 @@ fn print_from(
 fn print_shown(
     printing: Result<Listing, Refusal>,
     maps: &[u64],
-    ends: &[u64],
-    rests: &[u64],
+    table: Table<'_>,
     words: &[u64],
     out: &mut [u8],
 ) -> usize
-    ensures { ShownPrinted (numbered printing) (lent maps.now ends.now rests.now) words.now out.old out.new result }
+    ensures { ShownPrinted (numbered printing) (lent maps.now table.entry.ends.now table.entry.rests.now) words.now out.old out.new result }
 {
     let mut line = [0u8; 256];
     match printing {
@@ -72,7 +73,7 @@ fn print_shown(
             let size = refused(r.number(), &mut line);
             text(out, 0, part(&line, 0, size))
         }
-        Ok(position) => print_from(position, maps, ends, rests, words, &mut line, out),
+        Ok(position) => print_from(position, maps, table, words, &mut line, out),
     }
 }
 
@@ -80,20 +81,16 @@ fn print_shown(
 // answer is how many bytes that has; what there is no room for is not stored. A refusal leaves everything else as it was.
 pub fn print(
     s: &[u8],
-    j64: &mut [u64],
-    j32: &mut [u32],
-    j16: &mut [u16],
-    j8: &mut [u8],
-    jf: &mut [f32],
-    ends: &mut [u64],
-    rests: &mut [u64],
-    queue: &mut [u64],
+    job: &mut LentJobMut<'_>,
+    state: &mut LentState<'_>,
     last: &mut [u8],
     words: &mut [u64],
     out: &mut [u8],
 ) -> usize
-    ensures { Printed s.now (slices j64.old j32.old j16.old j8.old jf.old) (lent_state ends.old rests.old queue.old last.old) words.old (slices j64.new j32.new j16.new j8.new jf.new) (lent_state ends.new rests.new queue.new last.new) words.new out.old out.new result }
+    ensures same_job { SameJob job.old job.new }
+    ensures same_state { SameState state.old state.new }
+    ensures printed { Printed s.now (slices_in job.old) (state_in state.old last.old) words.old (slices_in job.new) (state_in state.new last.new) words.new out.old out.new result }
 {
-    let printing = begin(s, j64, j32, j16, j8, jf, ends, rests, queue, last, words);
-    print_shown(printing, j64, ends, rests, words, out)
+    let printing = begin(s, job, state, last, words);
+    print_shown(printing, job.as_job().j64, state.as_table(), words, out)
 }

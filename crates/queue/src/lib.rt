@@ -39,7 +39,7 @@ pub fn encode(number: u16, hints: bool, size: u32, stage: Stage) -> u64
     first + size_part(size) * 0x1_0000_0000 + u64::from(number)
 }
 
-// What a word of the queue stands for.
+// What a word of the queue stands for. The words' format is firmware's, and fixed.
 #[tactic(auto, unfolding(crate::specs::QueueWalk::decoded))]
 fn decode(word: u64) -> Option<(u16, Stage)>
     ensures { result ≡ decoded word }

@@ -41,7 +41,7 @@ pub fn word_of(a: Assignment) -> u64
     bits as u64 * 65536 + reg_of(a) as u64 * 256 + kind_of(a) as u64
 }
 
-// The record of a word. Every word has one: what is no word of a record stands for a dead one.
+// The record of a word, in which firmware lends it. Every word has one: what is no word of a record stands for a dead one.
 pub fn record_of(word: u64) -> Assignment
     ensures { result ≡ record_in word }
 {

@@ -20,7 +20,7 @@ pub fn flag_of(a: Assignment) -> bool
     }
 }
 
-// Whether a record holds a register.
+// Whether a record holds a register. One line for a case: `matches!` is the form for it.
 pub fn is_assigned(a: Assignment) -> bool
     ensures { result ≡ is_held a }
 {
@@ -37,7 +37,7 @@ pub fn reg_of(a: Assignment) -> u8
     }
 }
 
-// The weight with which a record holds its register, or 0.
+// The weight with which a record holds its register, or 0. One line, like `reg_of` of another field: one function for both would be no plainer.
 pub fn held_weight(a: Assignment) -> f32
     ensures { result ≡ record_weight a }
 {
@@ -63,7 +63,7 @@ pub fn kind_of(a: Assignment) -> u8
     }
 }
 
-// The record of this kind, with this register and weight where it is assigned.
+// The record of this kind, a number of the C interface, with this register and weight where it is assigned.
 pub fn record_by(kind: u8, reg: u8, weight: f32) -> Assignment
     ensures { result ≡ record_by kind reg weight }
 {

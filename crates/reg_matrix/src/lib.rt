@@ -31,7 +31,8 @@ pub struct Entry {
     pub reservation: Reservation,
 }
 
-// 01, "Check": what a check meets: a fixed reservation, which cannot be evicted, or a virtual register, which can.
+// 01, "Check": what a check meets: a fixed reservation, which cannot be evicted, or a virtual register, which can. No Option: both are the source's,
+// and `None` for a fixed one would say less.
 #[derive(Clone, Copy)]
 pub enum InterferenceKind {
     Fixed,

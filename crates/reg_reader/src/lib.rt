@@ -72,7 +72,7 @@ fn class(s: &[u8], at: usize, regs: u64, g: usize, list: &mut [u8]) -> Result<(u
 }
 
 // The classes: where each begins and where the last ends, and the registers of all. Answers how many registers all have, and the position after
-// them.
+// them. Of a job's slices only these two are lent, so that the others are as they were without a word: a struct would be no plainer.
 pub fn classes(
     s: &[u8],
     start: usize,

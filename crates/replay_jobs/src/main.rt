@@ -5,7 +5,7 @@
 use io::read_full;
 use lent::part;
 use printer::write_sheet;
-use script_bytes::input::read_number;
+use script_bytes::input::Input;
 
 // The descriptors of standard input and output.
 const STDIN_FILENO: i32 = 0;
@@ -14,8 +14,7 @@ const STDOUT_FILENO: i32 = 1;
 
 // Reads the next job into what is lent and prints its sheet, and answers whether there was one.
 fn replay(job: &mut [u8]) -> bool {
-    let mut four: u64 = 4;
-    let Some(length) = read_number(&mut four, 4) else {
+    let Some(length) = Input { left: 4 }.read_number(4) else {
         return false;
     };
     let n = length as usize;

@@ -1,13 +1,12 @@
 // Reads a row of scripts (docs/SCRIPT.md) from standard input, each after its length as four bytes, little-endian, and prints their transcripts.
 #![tactic(auto)]
 
-use script_bytes::input::read_number;
+use script_bytes::input::Input;
 use scripts::run_script;
 
 // Reads the next script and prints its transcript, and answers whether there was one.
 fn replay() -> bool {
-    let mut four: u64 = 4;
-    let Some(length) = read_number(&mut four, 4) else {
+    let Some(length) = Input { left: 4 }.read_number(4) else {
         return false;
     };
     run_script(length);

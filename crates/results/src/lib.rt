@@ -12,6 +12,7 @@ use listing::Listing;
 use record_words::record_of;
 use reg_matrix::Refusal;
 use result_lines::ending_of;
+use table_words::buffers::Table;
 use words::header::{header_of, short_words};
 use words::numbers::{place_number, place_of, standing_number};
 
@@ -68,19 +69,18 @@ pub fn sheet_line(
     answer: &[u64],
     position: u64,
     maps: &[u64],
-    ends: &[u64],
-    rests: &[u64],
+    table: Table<'_>,
     line: &mut [u8],
     next: &mut [u64],
 ) -> Result<(), Refusal>
-    ensures { LineCalled header.now records.now answer.now position (lent maps.now ends.now rests.now) line.old next.old line.new next.new (number_in result) }
+    ensures { LineCalled header.now records.now answer.now position (lent maps.now table.entry.ends.now table.entry.rests.now) line.old next.old line.new next.new (number_in result) }
 {
     if short_words(header, records) || answer.len() < 2 || next.len() < 2 {
         return Err(Refusal::ShortBuffer);
     }
     let listing = listing_of(header, answer, position);
     let record = record_of(at(records, listing.number()));
-    let found = listing.next(record, maps, ends, rests, line)?;
+    let found = listing.next(record, maps, table, line)?;
     store_next(found, next);
     Ok(())
 }

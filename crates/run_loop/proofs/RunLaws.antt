@@ -6,8 +6,9 @@ use mathlib.Core.List.{List, ◌++◌}
 use mathlib.Core.Option.{Option, none, some}
 use mathlib.Core.Bool.{Bool, true, false, not}
 use lib.Dec.{T}
-use lib.ListN.{length, get_or, take}
+use lib.ListN.{get_or, take}
 use lib.Seq.{take_at}
+use Rattle.table_words.specs.declared.buffers.LentState.{LentState}
 use Rattle.job.specs.Model.{Job}
 use Rattle.job.specs.Layout.{JobBuffers, JobSlices, lists_in}
 use Rattle.allocator.specs.declared.Stage.{Stage}
@@ -29,15 +30,13 @@ use Rattle.record_words.specs.Words.{record_in, held_in, WordsOf}
 use Rattle.decisions.specs.declared.Decided.{Decided}
 use Rattle.decisions.specs.declared.Decided.TheVariants.{Leaves, Takes, Evicts, Splits, Fails}
 use Rattle.std.proofs.Common.{Some, None}
-use Rattle.job_parts.specs.Shares.{class_in}
 use Rattle.decisions.specs.Deciding.{decision_of, decided_in}
 use Rattle.moves.specs.Standing.{Stands}
-use Rattle.moves.specs.Moving.{wide_lists}
 use Rattle.context.specs.Carrying.{CarriedOut}
 use Rattle.moves.proofs.MoveLaws.{evict_reads, take_reads}
 use Rattle.context.proofs.Decision.{decision_is}
 use Rattle.run_loop.specs.declared.RunEnd.{RunEnd}
-use Rattle.run_loop.specs.Running.{is_fails, is_over, LentTo, DequeueMade, RunMade}
+use Rattle.run_loop.specs.Running.{state_in, is_fails, is_over, LentTo, DequeueMade, RunMade}
 
 -- ---- a dequeue
 
@@ -61,20 +60,23 @@ others_on Splits n = refl
 others_on Fails n = absurd (n refl)
 
 pub dequeue_made :
-    (v : ℕ) (q : Stage) (B : JobSlices) (S : StateBuffers) (W : List ℕ) (S' : StateBuffers) (W' : List ℕ) (d : Decided) (over : Bool)
-    → (length (class_in (lists_in B) v) ≤ 64 → d ≡ decided_in (lists_in B) S.ends S.rests S.last (held_in W) (flag_in (record_in (get_or W v 0))) v q)
-    → CarriedOut d v (wide_lists B) S.ends S.rests S.queue S.last W S'.ends S'.rests S'.queue S'.last W'
+    (v : ℕ) (q : Stage) (B : JobSlices) (S : LentState) (last W : List ℕ) (S' : LentState) (last' W' : List ℕ) (d : Decided) (over : Bool) (ends rests : List ℕ)
+    → ends ≡ S.ends.now
+    → rests ≡ S.rests.now
+    → d ≡ decided_in (lists_in B) ends rests last (held_in W) (flag_in (record_in (get_or W v 0))) v q
+    → CarriedOut d v (lists_in B) S last W S' last' W'
     → over ≡ is_fails d
-    → DequeueMade v q (lists_in B) S W S' W' over
+    → DequeueMade v q (lists_in B) (state_in S last) W (state_in S' last') W' over
 unfolding dequeue
-dequeue_made v q B S W S' W' d over says carried e =
+dequeue_made v q B S last W S' last' W' d over ends rests pe pr says carried e =
     record {
       made =
           λ j s t l queued.
           let dec =
-          decision_is j s l.reached (lists_in B) l.job_stands.reads v q queued t.ends t.rests t.last S.ends S.rests S.last W
+          decision_is j s l.reached (lists_in B) l.job_stands.reads v q queued t.ends t.rests t.last S.ends.now S.rests.now last W
           l.stands.moves.table l.stands.last_is l.records_are in
-          let is-it : decision_of d ≡ decide j s v q = ap decision_of (says dec.0) ∙ dec.1 in
+          let reads : d ≡ decided_in (lists_in B) S.ends.now S.rests.now last (held_in W) (flag_in (record_in (get_or W v 0))) v q = rw (← pe, ← pr) says in
+          let is-it : decision_of d ≡ decide j s v q = ap decision_of reads ∙ dec.1 in
           let after = carried.reached j s t q l.reached (evict_reads j B l.job_stands) (take_reads j B l.job_stands) l.stands l.records_are queued is-it in
           (after.0, after.1, e ∙ over_by j s v d ∙ ap (λ z. is_over (carry_out j s v z)) is-it);
     }

@@ -2,6 +2,7 @@
 -- state there. On any other state these say nothing. Assumes nothing.
 use Rattle.std.specs.Prelude.{ℕ, ◌≡◌, List, Bool, true, false, get_or}
 use Rattle.std.proofs.Math.Option.{some, none}
+use Rattle.table_words.specs.declared.buffers.LentState.{LentState}
 use Rattle.job.specs.Model.{Job}
 use Rattle.job.specs.Layout.{JobBuffers}
 use Rattle.allocator.specs.declared.Ending.{Ending}
@@ -21,6 +22,10 @@ use Rattle.run_loop.specs.declared.RunEnd.{RunEnd}
 -- the state's four slices
 abbrev pub lent_state : List ℕ → List ℕ → List ℕ → List ℕ → StateBuffers
 lent_state ends rests queue last = record { ends = ends; rests = rests; queue = queue; last = last }
+
+-- those of a state that is lent to change, with the registers last given beside it
+abbrev pub state_in : LentState → List ℕ → StateBuffers
+state_in s last = lent_state s.ends.now s.rests.now s.queue.now last
 
 -- the number of a run's word
 abbrev pub ending_number : Ending → ℕ

@@ -1,14 +1,19 @@
 // A run with a budget (`Allocator::run`): dequeues, the greatest key first, until nobody waits, the budget is spent, or too many are live.
 #![tactic(auto)]
 
-ghost use Rattle.std.specs.Prelude.{◌≡◌};
-ghost use Rattle.job.specs.Layout.{slices, lists_in};
-ghost use Rattle.run_loop.specs.Running.{lent_state, ending_number, DequeueMade, RunMade};
+ghost use Rattle.std.specs.Prelude.{◌≡◌, get_or};
+ghost use Rattle.table_words.specs.Buffers.{SameState};
+ghost use Rattle.job.specs.Layout.{lists_in};
+ghost use Rattle.job_parts.specs.Lent.{slices_of};
+ghost use Rattle.queue.specs.QueueWalk.{decoded};
+ghost use Rattle.run_loop.specs.Running.{state_in, ending_number, DequeueMade, RunMade};
 
 use allocator::{Ending, Stage};
 use context::carry::carry_out;
 use decisions::{Decided, decide};
+use job_parts::lent_job::LentJob;
 use queue::greatest;
+use table_words::buffers::LentState;
 
 // How a run ended, and after how many dequeues.
 #[derive(Clone, Copy)]
@@ -28,6 +33,13 @@ pub fn ending_number(ending: Ending) -> u64
     }
 }
 
+// The number that is dequeued next, and its stage.
+fn first(state: &LentState<'_>) -> Option<(u16, Stage)>
+    ensures { result ≡ decoded (get_or state.now.queue.now 1 0) }
+{
+    greatest(state.queue)
+}
+
 // A number that waits, and at which stage.
 #[derive(Clone, Copy)]
 struct Queued {
@@ -39,24 +51,17 @@ impl Queued {
     // Decides the number's dequeue and carries it out. Whether the run ends with it, as too many are live.
     fn dequeue(
         self,
-        j64: &[u64],
-        j32: &[u32],
-        j16: &[u16],
-        j8: &[u8],
-        jf: &[f32],
-        ends: &mut [u64],
-        rests: &mut [u64],
-        queue: &mut [u64],
+        job: LentJob<'_>,
+        state: &mut LentState<'_>,
         last: &mut [u8],
         words: &mut [u64],
     ) -> bool
-        ensures { DequeueMade self.number self.stage (lists_in (slices j64.now j32.now j16.now j8.now jf.now)) (lent_state ends.old rests.old queue.old last.old) words.old (lent_state ends.new rests.new queue.new last.new) words.new result }
+        ensures same { SameState state.old state.new }
+        ensures after { DequeueMade self.number self.stage (lists_in (slices_of job.entry)) (state_in state.old last.old) words.old (state_in state.new last.new) words.new result }
     {
         let v = self.number;
-        let decided = decide(
-            v, self.stage, words, j64, j32, j16, j8, jf, ends, rests, last,
-        );
-        carry_out(&decided, v, j64, j32, j16, ends, rests, queue, last, words);
+        let decided = decide(v, self.stage, words, job, state.as_table(), last);
+        carry_out(&decided, v, job, state, last, words);
         matches!(decided, Decided::Fails)
     }
 }
@@ -64,35 +69,30 @@ impl Queued {
 // Makes at most `budget` dequeues, where the records stand in the words (`record_words`).
 pub fn run_on(
     budget: u64,
-    j64: &[u64],
-    j32: &[u32],
-    j16: &[u16],
-    j8: &[u8],
-    jf: &[f32],
-    ends: &mut [u64],
-    rests: &mut [u64],
-    queue: &mut [u64],
+    job: LentJob<'_>,
+    state: &mut LentState<'_>,
     last: &mut [u8],
     words: &mut [u64],
 ) -> RunEnd
-    ensures { RunMade budget (lists_in (slices j64.now j32.now j16.now j8.now jf.now)) (lent_state ends.old rests.old queue.old last.old) words.old (lent_state ends.new rests.new queue.new last.new) words.new result }
+    ensures same { SameState state.old state.new }
+    ensures after { RunMade budget (lists_in (slices_of job.entry)) (state_in state.old last.old) words.old (state_in state.new last.new) words.new result }
 {
     for dequeues in 0..budget {
-        let Some((number, stage)) = greatest(queue) else {
+        let Some((number, stage)) = first(state) else {
             return RunEnd {
                 ending: Ending::Done,
                 dequeues,
             };
         };
-        let first = Queued { number, stage };
-        if first.dequeue(j64, j32, j16, j8, jf, ends, rests, queue, last, words) {
+        let next = Queued { number, stage };
+        if next.dequeue(job, state, last, words) {
             return RunEnd {
                 ending: Ending::TooMany,
                 dequeues: dequeues + 1,
             };
         }
     }
-    let ending = match greatest(queue) {
+    let ending = match first(state) {
         Some(_) => Ending::Spent,
         None => Ending::Done,
     };

@@ -4,16 +4,19 @@
 #![tactic(auto)]
 
 ghost use Rattle.std.specs.Prelude.{◌≤◌};
+ghost use Rattle.table_words.specs.Buffers.{SameState};
 ghost use Rattle.script_calls.specs.Calls.{CallTook};
 
 use allocator::Assignment;
 use call_lists::lists::carry_out_list;
 use job::{JobHeader, USES};
+use job_parts::lent_job::LentJob;
 use lent::from;
 use records::first_records;
-use script_bytes::input::read_number;
+use script_bytes::input::Input;
 use script_bytes::output::print;
 use script_io::questions::{ask_check, ask_unit_free};
+use table_words::buffers::{LentState, RegMatrix, Table};
 use transcript::states;
 
 pub mod loading;
@@ -33,27 +36,27 @@ enum Call {
 struct Bad;
 
 // Reads the arguments of a call or a question of this kind. A check's segments come after them.
-fn read_arguments(left: &mut u64, kind: u64) -> Option<Call>
-    ensures { left.new ≤ left.old }
+fn read_arguments(input: &mut Input, kind: u64) -> Option<Call>
+    ensures { input.new.left ≤ input.old.left }
 {
     match kind {
         1 => {
-            let v = read_number(left, 2)?;
-            let reg = read_number(left, 1)?;
-            let weight = read_number(left, 4)?;
+            let v = input.read_number(2)?;
+            let reg = input.read_number(1)?;
+            let weight = input.read_number(4)?;
             Some(Call::Place { v, reg, weight })
         }
         2 => {
-            let v = read_number(left, 2)?;
+            let v = input.read_number(2)?;
             Some(Call::Evict { v })
         }
         3 => {
-            let budget = read_number(left, 4)?;
+            let budget = input.read_number(4)?;
             Some(Call::Run { budget })
         }
         4 | 5 => {
-            let reg = read_number(left, 1)?;
-            let segments = read_number(left, 1)?;
+            let reg = input.read_number(1)?;
+            let segments = input.read_number(1)?;
             Some(Call::Check {
                 reg,
                 segments,
@@ -61,9 +64,9 @@ fn read_arguments(left: &mut u64, kind: u64) -> Option<Call>
             })
         }
         6 => {
-            let unit = read_number(left, 1)?;
-            let from = read_number(left, 4)?;
-            let to = read_number(left, 4)?;
+            let unit = input.read_number(1)?;
+            let from = input.read_number(4)?;
+            let to = input.read_number(4)?;
             Some(Call::IsUnitFree { unit, from, to })
         }
         _ => None,
@@ -71,13 +74,13 @@ fn read_arguments(left: &mut u64, kind: u64) -> Option<Call>
 }
 
 // Reads the next call or question, if the script does not end here.
-fn read_call(left: &mut u64) -> Result<Option<Call>, Bad>
-    ensures { CallTook left.old left.new result }
+fn read_call(input: &mut Input) -> Result<Option<Call>, Bad>
+    ensures { CallTook input.old.left input.new.left result }
 {
-    let Some(kind) = read_number(left, 1) else {
+    let Some(kind) = input.read_number(1) else {
         return Ok(None);
     };
-    match read_arguments(left, kind) {
+    match read_arguments(input, kind) {
         Some(call) => Ok(Some(call)),
         None => Err(Bad),
     }
@@ -92,9 +95,9 @@ fn print_records(records: [Assignment; 512], n: u16, line: &mut [u8]) {
 }
 
 // The entries of the table, from the first on.
-fn print_entries(header: JobHeader, maps: &[u64], ends: &[u64], rests: &[u64], line: &mut [u8]) {
+fn print_entries(header: JobHeader, maps: &[u64], table: Table<'_>, line: &mut [u8]) {
     for i in 0..2560 {
-        let length = states::entry_line(line, header, i, maps, ends, rests);
+        let length = states::entry_line(line, header, i, maps, table);
         if length == 0 {
             return;
         }
@@ -107,18 +110,16 @@ fn print_state(
     records: [Assignment; 512],
     header: JobHeader,
     maps: &[u64],
-    ends: &[u64],
-    rests: &[u64],
-    queue: &[u64],
+    state: &LentState<'_>,
     last: &[u8],
     line: &mut [u8],
 ) {
     print_records(records, header.virt_regs, line);
-    let keys = states::queue_line(line, queue, header.virt_regs);
+    let keys = states::queue_line(line, state.queue, header.virt_regs);
     print(line, keys);
     let regs = states::last_line(line, last);
     print(line, regs);
-    print_entries(header, maps, ends, rests, line);
+    print_entries(header, maps, state.as_table(), line);
 }
 
 // Makes the call of these four words, as a list of calls has it, and prints what it answers and the state afterwards. What returns is the records
@@ -127,41 +128,24 @@ fn make(
     list: [u64; 4],
     records: [Assignment; 512],
     header: JobHeader,
-    j64: &[u64],
-    j32: &[u32],
-    j16: &[u16],
-    j8: &[u8],
-    jf: &[f32],
-    ends: &mut [u64],
-    rests: &mut [u64],
-    queue: &mut [u64],
+    job: LentJob<'_>,
+    state: &mut LentState<'_>,
     last: &mut [u8],
     line: &mut [u8],
-) -> [Assignment; 512] {
+) -> [Assignment; 512]
+    ensures { SameState state.old state.new }
+{
     let mut numbers = [0u64; 3];
-    let done = carry_out_list(
-        records,
-        header,
-        &list,
-        j64,
-        j32,
-        j16,
-        j8,
-        jf,
-        ends,
-        rests,
-        queue,
-        last,
-        &mut numbers,
-    );
+    let done = carry_out_list(records, header, &list, job, state, last, &mut numbers);
     // not met: three numbers have room for the answer of a list of one call
     let Ok(made) = done else {
         return records;
     };
+    // tried, and not covered by the check: the array taken straight from the pattern
     let after = made.0;
     let length = answers::answer_line(line, numbers[0], numbers[1], numbers[2]);
     print(line, length);
-    print_state(after, header, j64, ends, rests, queue, last, line);
+    print_state(after, header, job.j64, state, last, line);
     after
 }
 
@@ -179,14 +163,13 @@ impl Call {
     // Asks a question, and prints what is answered. Answers whether it was all there, with its segments.
     fn ask(
         self,
-        left: &mut u64,
+        input: &mut Input,
         header: JobHeader,
         maps: &[u64],
-        ends: &[u64],
-        rests: &[u64],
+        table: Table<'_>,
         line: &mut [u8],
     ) -> bool
-        ensures { left.new ≤ left.old }
+        ensures { input.new.left ≤ input.old.left }
     {
         match self {
             Call::Check {
@@ -194,19 +177,20 @@ impl Call {
                 segments,
                 full,
             } => ask_check(
-                left,
+                input,
                 reg,
                 segments,
                 header.regs,
                 full,
                 maps,
-                ends,
-                rests,
-                from(maps, USES),
+                RegMatrix {
+                    table,
+                    uses: from(maps, USES),
+                },
                 line,
             ),
             Call::IsUnitFree { unit, from, to } => {
-                let _ = ask_unit_free(unit, from, to, ends, rests, line);
+                let _ = ask_unit_free(unit, from, to, table, line);
                 true
             }
             _ => true,
@@ -214,32 +198,27 @@ impl Call {
     }
 }
 
-// Makes the calls of a script, of which `left` bytes are left, on a loaded job, each followed by the state, and asks its questions, up to its end or to
+// Makes the calls of a script, which the input has next, on a loaded job, each followed by the state, and asks its questions, up to its end or to
 // what is bad. What is left of the script never grows.
 fn make_calls(
     header: JobHeader,
-    left: &mut u64,
-    j64: &[u64],
-    j32: &[u32],
-    j16: &[u16],
-    j8: &[u8],
-    jf: &[f32],
-    ends: &mut [u64],
-    rests: &mut [u64],
-    queue: &mut [u64],
+    input: &mut Input,
+    job: LentJob<'_>,
+    state: &mut LentState<'_>,
     last: &mut [u8],
     line: &mut [u8],
 ) -> Result<(), Bad>
-    ensures { left.new ≤ left.old }
+    ensures left { input.new.left ≤ input.old.left }
+    ensures same { SameState state.old state.new }
 {
     let mut all = first_records();
-    while let Some(call) = read_call(left)? {
+    // a `for` is no plainer: whether a call follows is known when it is read, and reading may fail
+    while let Some(call) = read_call(input)? {
         if let Some(list) = call.words() {
-            let after = make(
-                list, all, header, j64, j32, j16, j8, jf, ends, rests, queue, last, line,
-            );
+            // tried, and not covered by the check: the call's array given straight to `all`
+            let after = make(list, all, header, job, state, last, line);
             all = after;
-        } else if !call.ask(left, header, j64, ends, rests, line) {
+        } else if !call.ask(input, header, job.j64, state.as_table(), line) {
             return Err(Bad);
         }
     }

@@ -2,9 +2,12 @@
 ghost use Rattle.std.specs.Prelude.{◌≤◌};
 
 use crate::make_calls;
+use job_parts::lent_job::LentJobMut;
 use reg_matrix::Refusal;
+use script_bytes::input::Input;
 use script_bytes::output::print;
 use stage_loader::load;
+use table_words::buffers::LentState;
 
 // Prints that a job is refused, with the refusal's number.
 fn print_refused(line: &mut [u8], r: Refusal) {
@@ -12,10 +15,10 @@ fn print_refused(line: &mut [u8], r: Refusal) {
     print(line, length);
 }
 
-// Loads the job of these bytes into buffers of its own, and makes the calls of a script on it, of which `left` bytes are left. A refused job prints its
+// Loads the job of these bytes into buffers of its own, and makes the calls of a script on it, which the input has next. A refused job prints its
 // refusal alone. Answers whether the script was good; what is left of it never grows.
-pub fn run_job(bytes: &[u8], left: &mut u64, line: &mut [u8]) -> bool
-    ensures { left.new ≤ left.old }
+pub fn run_job(bytes: &[u8], input: &mut Input, line: &mut [u8]) -> bool
+    ensures { input.new.left ≤ input.old.left }
 {
     let mut j64 = [0u64; 576];
     let mut j32 = [0u32; 1536];
@@ -26,19 +29,27 @@ pub fn run_job(bytes: &[u8], left: &mut u64, line: &mut [u8]) -> bool
     let mut rests = [0u64; 2560];
     let mut queue = [0u64; 1024];
     let mut last = [0u8; 512];
-    let loaded = load(
-        bytes, &mut j64, &mut j32, &mut j16, &mut j8, &mut jf, &mut ends, &mut rests, &mut queue,
-        &mut last,
-    );
+    let mut job = LentJobMut {
+        j64: &mut j64,
+        j32: &mut j32,
+        j16: &mut j16,
+        j8: &mut j8,
+        jf: &mut jf,
+    };
+    let mut state = LentState {
+        ends: &mut ends,
+        rests: &mut rests,
+        queue: &mut queue,
+    };
+    let loaded = load(bytes, &mut job, &mut state, &mut last);
     match loaded {
         Err(r) => {
             print_refused(line, r);
             true
         }
-        Ok(header) => make_calls(
-            header, left, &j64, &j32, &j16, &j8, &jf, &mut ends, &mut rests, &mut queue, &mut last,
-            line,
-        )
-        .is_ok(),
+        Ok(header) => {
+            let job = job.as_job();
+            make_calls(header, input, job, &mut state, &mut last, line).is_ok()
+        }
     }
 }

@@ -5,35 +5,35 @@
 ghost use Rattle.std.specs.Prelude.{◌≤◌};
 
 use lent::part;
-use script_bytes::input::{read_number, read_some, skip};
+use script_bytes::input::Input;
 use script_bytes::output::print;
 use script_calls::loading::run_job;
 
 // Reads a job of `length` bytes: the first 32,769 are kept, one more than a job may have, and the others are read and forgotten. Answers whether
 // they were all there.
-fn read_job(left: &mut u64, length: u64, bytes: &mut [u8]) -> bool
-    ensures { left.new ≤ left.old }
+fn read_job(input: &mut Input, length: u64, bytes: &mut [u8]) -> bool
+    ensures { input.new.left ≤ input.old.left }
 {
     let kept = length.min(32769);
-    if read_some(left, kept, bytes) < kept {
+    if input.read_some(kept, bytes) < kept {
         return false;
     }
-    skip(left, length - kept)
+    input.skip(length - kept)
 }
 
-// Reads one script, of at most `left` bytes, and prints its transcript up to where it is bad. Answers whether it was good to its end.
-fn print_script(left: &mut u64, line: &mut [u8]) -> bool
-    ensures { left.new ≤ left.old }
+// Reads the script that the input has and prints its transcript, up to where it is bad. Answers whether it was good to its end.
+fn print_script(input: &mut Input, line: &mut [u8]) -> bool
+    ensures { input.new.left ≤ input.old.left }
 {
     let mut bytes = [0u8; 32769];
-    let Some(size) = read_number(left, 4) else {
+    let Some(size) = input.read_number(4) else {
         return false;
     };
-    if !read_job(left, size, &mut bytes) {
+    if !read_job(input, size, &mut bytes) {
         return false;
     }
     let kept = size.min(32769) as usize;
-    run_job(part(&bytes, 0, kept), left, line)
+    run_job(part(&bytes, 0, kept), input, line)
 }
 
 // Reads a script of `length` bytes, or to the input's end, and prints its transcript, with `bad script` at its end where the script is bad. What a bad
@@ -42,13 +42,13 @@ fn print_script(left: &mut u64, line: &mut [u8]) -> bool
 pub fn run_script(length: u64) -> u64
     ensures { result ≤ length }
 {
-    let mut left = length;
+    let mut input = Input { left: length };
     let mut line = [0u8; 16384];
-    if !print_script(&mut left, &mut line) {
+    if !print_script(&mut input, &mut line) {
         let size = answers::bad_line(&mut line);
         print(&line, size);
     }
-    let rest = left;
-    skip(&mut left, rest);
-    left
+    let rest = input.left;
+    input.skip(rest);
+    input.left
 }

@@ -1,50 +1,48 @@
-// Lists of at most 255 segment structs in an array that goes by value. Each call here lends its first segments.
+// The check of lists of at most 255 segment structs, as many as a script's check has.
 #![tactic(auto)]
 
-ghost use Rattle.std.specs.Prelude.{◌≡◌, ◌<◌, ◌≤◌, ltb, take};
-ghost use Rattle.matrix.specs.Walk.{Answered, lent};
-ghost use Rattle.segment_fields.specs.Apart.{froms_of, tos_of, values_of};
+ghost use Rattle.std.specs.Prelude.{◌≡◌, ◌<◌, ◌≤◌, ltb, length};
+ghost use Rattle.matrix.specs.Walk.{Answered};
 ghost use Rattle.reg_matrix.specs.Refused.{numbered};
-ghost use Rattle.segment_calls.specs.Answers.{check_answer};
+ghost use Rattle.table_words.specs.Segments.{froms_of, tos_of, values_of};
+ghost use Rattle.thin.specs.Answers.{lent_to, check_answer};
 
 use matrix::Cursor;
 use reg_matrix::{Interference, Refusal, ValueSegment};
+use table_words::buffers::RegMatrix;
 use thin::check::{check_interference, next};
 
-// Starts a check of the register numbered `reg` among the first `count` maps of units, in the full or the short form, against the first n
-// segments. It tests 15, 8, 5, 6, 7 in this order, and gives the refusal or the position at the start. More than 255 segments are
-// refused with 15: the array has no room for them.
-#[tactic(auto, unfolding(segment_calls::specs::Answers::check_answer))]
+// Starts a check of the register numbered `reg` among the first `count` maps of units, in the full or the short form, against the segments
+// of a list. It tests 15, 8, 5, 6, 7 in this order, and gives the refusal or the position at the start. More than 255 segments are
+// refused with 15.
+#[tactic(auto, unfolding(thin::specs::Answers::check_answer))]
 pub fn check_list(
-    list: [ValueSegment; 255],
-    n: usize,
+    list: &[ValueSegment],
     regs: &[u64],
     count: usize,
     reg: usize,
     full: bool,
-    ends: &[u64],
-    rests: &[u64],
-    uses: &[u64],
+    matrix: RegMatrix<'_>,
 ) -> Result<Cursor, Refusal>
-    ensures { numbered result ≡ check_answer (ltb 255 n) regs.now count reg full ends.now rests.now uses.now (froms_of (take n list)) (tos_of (take n list)) (values_of (take n list)) }
+    ensures { numbered result ≡ check_answer (ltb 255 (length list.now)) regs.now count reg full matrix.entry.table.ends.now matrix.entry.table.rests.now matrix.entry.uses.now (froms_of list.now) (tos_of list.now) (values_of list.now) }
 {
-    if 255 < n {
+    if 255 < list.len() {
         return Err(Refusal::ShortBuffer);
     }
-    check_interference(&list[..n], regs, count, reg, full, ends, rests, uses)
+    check_interference(list, regs, count, reg, full, matrix)
 }
 
-// The next report from this position on, with the position after it, or the check's end. It asks nothing of what is passed: of more than 255
+// The next report from this position on, with the position after it, or the check's end. It asks nothing of what is lent: of more than 255
 // segments, against which no check starts, there is none, and the answer is the end.
 pub fn next_in_list(
-    list: [ValueSegment; 255],
-    n: usize,
+    list: &[ValueSegment],
     c: Cursor,
-    ends: &[u64],
-    rests: &[u64],
-    uses: &[u64],
+    matrix: RegMatrix<'_>,
 ) -> Option<(Interference, Cursor)>
-    ensures { (255 < n → result ≡ None) × (n ≤ 255 → Answered (lent ends.now rests.now uses.now (froms_of (take n list)) (tos_of (take n list)) (values_of (take n list))) c result) }
+    ensures { (255 < length list.now → result ≡ None) × (length list.now ≤ 255 → Answered (lent_to matrix.entry list.now) c result) }
 {
-    next(list.get(..n)?, c, ends, rests, uses)
+    if 255 < list.len() {
+        return None;
+    }
+    next(list, c, matrix)
 }

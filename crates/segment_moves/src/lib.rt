@@ -5,12 +5,14 @@
 ghost use Rattle.std.specs.Prelude.{◌≡◌, ◌+◌, ◌-◌, ◌*◌, ◌%◌, ◌≤◌, ◌^◌};
 ghost use Rattle.reg_matrix.specs.Layout.{max_entries, max_fixed};
 ghost use Rattle.table_words.specs.Search.{place_of};
-ghost use Rattle.entries.specs.Moves.{words};
+ghost use Rattle.table_words.specs.Buffers.{SameTable};
+ghost use Rattle.entries.specs.Moves.{words_in, words_of};
 ghost use Rattle.entries.specs.Placing.{use_key, uses_before, index_part, held_word, assigning_segment};
 ghost use Rattle.entries.specs.Placing.{is_own, inserting_uses, first_under, evicting_segment};
 
 use entries::table::{insert, insert_use, remove, remove_run};
 use lent::at;
+use table_words::buffers::{Table, TableMut};
 use table_words::search::{find, search};
 
 // The place of the first fixed use that does not start before p on this unit.
@@ -74,40 +76,34 @@ fn held_word(uses: &[u64], v: u16, unit: u8, from: u32, lo: usize, hi: usize) ->
 // One segment on one unit: the entries that end inside it, fixed uses all, give way to an entry of v. A virtual register has a number under 512;
 // of any other its remainder is taken.
 #[tactic(auto, unfolding(entries::specs::Placing::assigning_segment))]
-pub fn assign_segment(
-    ends: &mut [u64],
-    rests: &mut [u64],
-    uses: &[u64],
-    v: u16,
-    unit: u8,
-    from: u32,
-    to: u32,
-)
-    ensures { words ends.new rests.new ≡ assigning_segment uses.now (v % 512) unit (words ends.old rests.old) from to }
+pub fn assign_segment(table: &mut TableMut<'_>, uses: &[u64], v: u16, unit: u8, from: u32, to: u32)
+    ensures same { SameTable table.old table.new }
+    ensures after { words_of table.new ≡ assigning_segment uses.now (v % 512) unit (words_of table.old) from to }
 {
-    let lo = past(ends, unit, from);
-    let hi = past(ends, unit, to);
+    let lo = past(table.as_table().ends, unit, from);
+    let hi = past(table.as_table().ends, unit, to);
     let rest = held_word(uses, v, unit, from, lo, hi);
-    remove_run(ends, rests, lo, hi.saturating_sub(lo));
-    insert(ends, rests, end_word(unit, to), rest);
+    remove_run(table, lo, hi.saturating_sub(lo));
+    insert(table, end_word(unit, to), rest);
 }
 
 // Whether the entry at `place` ends at `end` and is v's.
 #[tactic(auto, unfolding(entries::specs::Placing::is_own))]
-fn is_own(ends: &[u64], rests: &[u64], v: u16, end: u64, place: usize) -> bool
-    ensures { result ≡ is_own v end place (words ends.now rests.now) }
+fn is_own(table: Table<'_>, v: u16, end: u64, place: usize) -> bool
+    ensures { result ≡ is_own v end place (words_in table.entry) }
 {
     place < 2560
-        && at(ends, place) == end
-        && at(rests, place) % 0x1_0000_0000 / 0x1_0000 == v as u64 + 2
+        && at(table.ends, place) == end
+        && at(table.rests, place) % 0x1_0000_0000 / 0x1_0000 == v as u64 + 2
 }
 
 // Puts the fixed uses number `first` to `last` back.
-fn insert_uses(ends: &mut [u64], rests: &mut [u64], uses: &[u64], first: usize, last: usize)
-    ensures { words ends.new rests.new ≡ inserting_uses (last - first) first uses.now (words ends.old rests.old) }
+fn insert_uses(table: &mut TableMut<'_>, uses: &[u64], first: usize, last: usize)
+    ensures same { SameTable table.old table.new }
+    ensures after { words_of table.new ≡ inserting_uses (last - first) first uses.now (words_of table.old) }
 {
     for j in first..last {
-        insert_use(ends, rests, at(uses, j));
+        insert_use(table, at(uses, j));
     }
 }
 
@@ -125,15 +121,16 @@ fn first_under(uses: &[u64], unit: u8, rest: u64, last: usize) -> usize
 
 // One segment on one unit: the entry of v goes, and the fixed uses that it replaced come back.
 #[tactic(auto, unfolding(entries::specs::Placing::evicting_segment))]
-pub fn evict_segment(ends: &mut [u64], rests: &mut [u64], uses: &[u64], v: u16, unit: u8, to: u32)
-    ensures { words ends.new rests.new ≡ evicting_segment uses.now v unit (words ends.old rests.old) to }
+pub fn evict_segment(table: &mut TableMut<'_>, uses: &[u64], v: u16, unit: u8, to: u32)
+    ensures same { SameTable table.old table.new }
+    ensures after { words_of table.new ≡ evicting_segment uses.now v unit (words_of table.old) to }
 {
     let end = end_word(unit, to);
-    let place = find(ends, end);
-    if is_own(ends, rests, v, end, place) {
+    let place = find(table.as_table().ends, end);
+    if is_own(table.as_table(), v, end, place) {
         let last = use_place(uses, unit, to);
-        let first = first_under(uses, unit, at(rests, place), last);
-        remove(ends, rests, place);
-        insert_uses(ends, rests, uses, first, last);
+        let first = first_under(uses, unit, at(table.as_table().rests, place), last);
+        remove(table, place);
+        insert_uses(table, uses, first, last);
     }
 }

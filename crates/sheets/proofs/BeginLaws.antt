@@ -208,18 +208,21 @@ module _ (bytes : List ℕ) (B : JobSlices) (S : StateBuffers) (W : List ℕ) wh
           (ap (λ (x : Listing). shown (Ok x) (lines_lent B₁ S') W') start_is
           ∙ reached_sheet j (ran_of j).state reach_after (records_in W') (lines_lent B₁ S') laid (ran_of j).ending (ran_of j).dequeues)
 
+  -- the run reads the job where loading left it
   pub loaded_begin :
       512 ≤ length W
       → Bytes bytes
       → (B₁ : JobSlices) (S₁ : StateBuffers) (r : Result JobHeader Refusal) (h : JobHeader)
       → StageLoadDone bytes B S B₁ S₁ r
       → r ≡ Ok h
+      → (lent : JobSlices)
+      → lent ≡ B₁
       → (S' : StateBuffers) (W' : List ℕ) (c : Listing)
-      → RunStored h B₁ S₁ W S' W' c
+      → RunStored h lent S₁ W S' W' c
       → Begun bytes B S W B₁ S' W' (Ok c)
-  loaded_begin room are_bytes B₁ S₁ r h d told S' W' c k = go (load (sizes_of B S) bytes) refl d.parts
+  loaded_begin room are_bytes B₁ S₁ r h d told lent same S' W' c k = go (load (sizes_of B S) bytes) refl d.parts
     where
       go : (o : Loaded) → load (sizes_of B S) bytes ≡ o → StageLoadParts B S B₁ S₁ r o → Begun bytes B S W B₁ S' W' (Ok c)
       go (not_loaded n) q p = absurd (refused_loaded n h (sym p.0 ∙ ap numbered told))
       go (loaded j) q p =
-          loaded_begun are_bytes j q h (same_header (sym told ∙ p.0)) B₁ S₁ p.1 p.2 S' W' c k room
+          loaded_begun are_bytes j q h (same_header (sym told ∙ p.0)) B₁ S₁ p.1 p.2 S' W' c (subst (λ (b : JobSlices). RunStored h b S₁ W S' W' c) same k) room

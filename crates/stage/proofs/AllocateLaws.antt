@@ -1,11 +1,8 @@
 -- Laws of a dequeue's decision in the code. Assumes nothing.
-use Prim.Native.Nat.{ℕ, ◌+◌, ◌-◌, ◌≤◌, ◌<◌}
-use native.Mathlib.Omega.{arith}
-use borrow.Author.Tests.{le-ltb}
+use Prim.Native.Nat.{ℕ, ◌+◌, ◌≤◌, ◌<◌}
 use mathlib.Core.Path.{◌≡◌, refl, ap, sym, ◌∙◌}
 use mathlib.Core.List.{List}
 use mathlib.Core.Bool.{Bool, true, false, not, cond}
-use lib.Dec.{ltb}
 use lib.Ieee.{Float}
 use lib.ListN.{length, get_or, drop, drop_of_length-le}
 use lib.Seq.{drop-cons}
@@ -20,11 +17,10 @@ use Rattle.stage.specs.EvictWalk.{tried_below}
 use Rattle.stage.specs.declared.evict.Tried.{Tried}
 use Rattle.stage.specs.declared.evict.Limit.{Limit}
 use Rattle.stage.specs.declared.allocate.Best.{Best}
-use Rattle.order.specs.declared.Offer.TheVariants.{Reg as Offered, Skip, End as NoMore}
 use Rattle.order.specs.OrderWalk.{no_candidate, offer_at, offers_from}
 use Rattle.stage.specs.AllocateWalk.{reports_on, clear_on, none_of, available_in, cost_so_far, by_cost, by_weight, tried_on, taking, improves, better_of, better_in, evict_in, prefers, preferred_of, prefer_in}
 use Rattle.stage.specs.declared.allocate.Available.TheVariants.{Clear}
-use Rattle.order.proofs.OrderLaws.{offers_step}
+use Rattle.order.proofs.OrderLaws.{offers_step, offers_past}
 
 -- the first report of a check decides whether it is clear
 pub clear_is_none : (W : Lent) (units : ℕ) (c : Cursor) (x : Maybe (Interference × Cursor)) (b : Bool) → c ≡ entered W.ends W.froms units false → remaining W c ≡ heard W x
@@ -43,32 +39,25 @@ pub clear_is : (W : Lent) (maps : List ℕ) (c : CandidateReg) (units : ℕ) (b 
 unfolding clear_on
 clear_is W maps c units b t q r e = rw (← q, ← r) e
 
--- ---- one candidate of the walk for a clear one: the rest from here is the whole
+-- ---- one place of the walk for a clear one: the rest from here is the whole
 
 module _ (W : Lent) (maps : List ℕ) (hs : List CandidateReg) (class : List ℕ) (i : ℕ) (t : Bool) where
-  pub available_end : offer_at hs class i ≡ NoMore → none_of t ≡ available_in W maps t (offers_from hs class i)
-  unfolding available_in
-  available_end q = rw (offers_step hs class i, q)
+  pub available_skip : None ≡ offer_at hs class i → available_in W maps t (offers_from hs class (i + 1)) ≡ available_in W maps t (offers_from hs class i)
+  available_skip q = rw (offers_step hs class i, ← q)
 
-  pub available_skip : offer_at hs class i ≡ Skip → available_in W maps t (offers_from hs class (i + 1)) ≡ available_in W maps t (offers_from hs class i)
-  available_skip q = rw (offers_step hs class i, q)
-
-  module _ (c : CandidateReg) (q : offer_at hs class i ≡ Offered c) where
+  module _ (c : CandidateReg) (q : Some c ≡ offer_at hs class i) where
     pub available_clear : clear_on W maps c ≡ true → Clear c ≡ available_in W maps t (offers_from hs class i)
     unfolding available_in
-    available_clear p = rw (offers_step hs class i, q, p)
+    available_clear p = rw (offers_step hs class i, ← q, p)
 
     pub available_not : clear_on W maps c ≡ false → available_in W maps true (offers_from hs class (i + 1)) ≡ available_in W maps t (offers_from hs class i)
     unfolding available_in
-    available_not p = rw (offers_step hs class i, q, p)
+    available_not p = rw (offers_step hs class i, ← q, p)
 
-  -- past the hinted candidates and the class there is none
+  -- past the end
   pub available_past : length hs + length class ≤ i → none_of t ≡ available_in W maps t (offers_from hs class i)
-  unfolding offer_at
-  available_past h =
-      let a : ltb i (length hs) ≡ false = le-ltb i (length hs) (omega arith) in
-      let b : ltb (i - length hs) (length class) ≡ false = le-ltb (i - length hs) (length class) (omega arith) in
-      available_end (rw (a, b))
+  unfolding available_in
+  available_past h = rw (offers_past hs class i h)
 
 -- what was tried on the units that were read for a candidate's register
 pub tried_is : (l l' : Limit) (W : Lent) (maps : List ℕ) (ws : List Float) (ss : List Float) (c : CandidateReg) (units : ℕ) (t : Maybe Tried)
@@ -79,24 +68,17 @@ tried_is l l' W maps ws ss c units t e q r = r ∙ rw (e, q)
 -- ---- one candidate of the search for a register to evict from
 
 module _ (W : Lent) (maps : List ℕ) (ws : List Float) (ss : List Float) (flag : Bool) (own : Float) (hs : List CandidateReg) (class : List ℕ) (i : ℕ) (b : Maybe Best) where
-  pub evict_end : offer_at hs class i ≡ NoMore → b ≡ evict_in W maps ws ss flag own b (offers_from hs class i)
-  unfolding evict_in foldl
-  evict_end q = rw (offers_step hs class i, q)
-
-  pub evict_skip : offer_at hs class i ≡ Skip → evict_in W maps ws ss flag own b (offers_from hs class (i + 1)) ≡ evict_in W maps ws ss flag own b (offers_from hs class i)
-  evict_skip q = rw (offers_step hs class i, q)
+  pub evict_skip : None ≡ offer_at hs class i → evict_in W maps ws ss flag own b (offers_from hs class (i + 1)) ≡ evict_in W maps ws ss flag own b (offers_from hs class i)
+  evict_skip q = rw (offers_step hs class i, ← q)
 
   pub evict_past : length hs + length class ≤ i → b ≡ evict_in W maps ws ss flag own b (offers_from hs class i)
-  unfolding offer_at
-  evict_past h =
-      let p : ltb i (length hs) ≡ false = le-ltb i (length hs) (omega arith) in
-      let q : ltb (i - length hs) (length class) ≡ false = le-ltb (i - length hs) (length class) (omega arith) in
-      evict_end (rw (p, q))
+  unfolding evict_in foldl
+  evict_past h = rw (offers_past hs class i h)
 
-  module _ (c : CandidateReg) (q : offer_at hs class i ≡ Offered c) (o : Maybe Tried) (e : o ≡ tried_on (by_cost flag own c (cost_so_far b)) W maps ws ss c) where
+  module _ (c : CandidateReg) (q : Some c ≡ offer_at hs class i) (o : Maybe Tried) (e : o ≡ tried_on (by_cost flag own c (cost_so_far b)) W maps ws ss c) where
     here : evict_in W maps ws ss flag own (better_of flag own c o b) (offers_from hs class (i + 1)) ≡ evict_in W maps ws ss flag own b (offers_from hs class i)
     unfolding evict_in foldl better_in
-    here = rw (offers_step hs class i, q, e)
+    here = rw (offers_step hs class i, ← q, e)
 
     abbrev then_from : Maybe Best → Maybe Best
     then_from x = evict_in W maps ws ss flag own x (offers_from hs class (i + 1))

@@ -1,2 +1,3 @@
 pub mod EvictWalk
 pub mod AllocateWalk
+pub mod Searching

@@ -1,20 +1,24 @@
 // A dequeue's decision (`Context::allocate`, `find_available_reg`).
-ghost use Rattle.std.specs.Prelude.{◌≡◌, None, false, List, ◌+◌, ◌≤◌, length};
+ghost use Rattle.std.specs.Prelude.{◌≡◌, None, false};
 ghost use Rattle.reg_matrix.specs.Lists.{is_nil};
-ghost use Rattle.matrix.specs.Walk.{lent};
-ghost use Rattle.allocator.specs.declared.CandidateReg.{CandidateReg};
-ghost use Rattle.order.specs.OrderWalk.{Computed, offers_from};
+ghost use Rattle.matrix.specs.Walk.{lent_in};
+ghost use Rattle.order.specs.Hinted.{listed, offers};
 ghost use Rattle.record_words.specs.Words.{held_in};
+ghost use Rattle.stage.specs.Searching.{lent_for};
 ghost use Rattle.stage.specs.AllocateWalk.{reports_on, none_of, available_in, cost_so_far, taking, by_cost, improves, evict_in, prefers, prefer_in};
 
 use crate::evict::{Limit, Tried};
+use crate::search::Search;
 use allocator::{CandidateReg, EvictCost};
 use evict_costs::{is_cheaper, may_evict};
 use lent::at;
 use matrix::check::enter;
-use order::{AllocationOrder, Offer, candidate};
+use order::allocation_order::AllocationOrder;
+use order::hinted::HintedRegs;
+use table_words::buffers::RegMatrix;
+use table_words::segments::Segments;
 
-// The first candidate that is clear; or none is; or there are no candidates.
+// The first candidate that is clear; or none is; or there are no candidates. Three cases, each decided on, so no Option.
 #[derive(Clone, Copy, PartialEq, Debug)]
 pub enum Available {
     Clear(CandidateReg),
@@ -31,19 +35,11 @@ pub struct Best {
 }
 
 // Whether the check of the segments on a register's units reports nothing. It stops at the first report.
-pub fn is_clear(
-    units: u64,
-    ends: &[u64],
-    rests: &[u64],
-    uses: &[u64],
-    froms: &[u32],
-    tos: &[u32],
-    values: &[u16],
-) -> bool
-    ensures { result ≡ is_nil (reports_on (lent ends.now rests.now uses.now froms.now tos.now values.now) units) }
+pub fn is_clear(units: u64, matrix: RegMatrix<'_>, segments: Segments<'_>) -> bool
+    ensures { result ≡ is_nil (reports_on (lent_in matrix.entry segments.entry.froms.now segments.entry.tos.now segments.entry.values.now) units) }
 {
-    let c = enter(ends, froms, units, false);
-    c.next(ends, rests, uses, froms, tos, values).is_none()
+    let c = enter(matrix.table.ends, segments, units, false);
+    c.next(matrix, segments).is_none()
 }
 
 fn none_of(tried: bool) -> Available
@@ -56,34 +52,19 @@ fn none_of(tried: bool) -> Available
     }
 }
 
-// The first candidate of the order that is clear. There are at most 65 hinted ones and 64 of a class.
-pub fn find_available_reg(
-    order: AllocationOrder,
-    regs: &[u8],
-    weights: &[f32],
-    class: &[u8],
-    maps: &[u64],
-    ends: &[u64],
-    rests: &[u64],
-    uses: &[u64],
-    froms: &[u32],
-    tos: &[u32],
-    values: &[u16],
-) -> Available
-    ensures { (hs : List CandidateReg) → Computed order regs.now weights.now hs → length hs + length class.now ≤ 129 → result ≡ available_in (lent ends.now rests.now uses.now froms.now tos.now values.now) maps.now false (offers_from hs class.now 0) }
+// The first candidate of the order that is clear.
+pub fn find_available_reg(order: &AllocationOrder<'_>, search: &Search<'_>) -> Available
+    ensures { result ≡ available_in (lent_for search.now) search.now.maps.now false (offers order.now) }
 {
     let mut tried = false;
-    for place in 0..129 {
-        match candidate(order, regs, weights, class, place) {
-            Offer::End => return none_of(tried),
-            Offer::Skip => {}
-            Offer::Reg(c) => {
-                tried = true;
-                let units = at(maps, c.reg as usize);
-                if is_clear(units, ends, rests, uses, froms, tos, values) {
-                    return Available::Clear(c);
-                }
-            }
+    for place in 0..order.len() {
+        let Some(c) = order.candidate(place) else {
+            continue;
+        };
+        tried = true;
+        let units = at(search.maps, c.reg as usize);
+        if is_clear(units, search.matrix, search.segments) {
+            return Available::Clear(c);
         }
     }
     none_of(tried)
@@ -133,44 +114,28 @@ fn found(c: CandidateReg, t: Tried) -> Best
     }
 }
 
-// The search for a register to evict from: the least cost wins, the first on ties.
+// The search for a register to evict from, for a number with this flag and spill weight: the least cost wins, the first on ties.
 pub fn try_evict(
-    order: AllocationOrder,
-    regs: &[u8],
-    weights: &[f32],
-    class: &[u8],
-    maps: &[u64],
-    words: &[u64],
-    spills: &[f32],
+    order: &AllocationOrder<'_>,
     flag: bool,
     own: f32,
-    ends: &[u64],
-    rests: &[u64],
-    uses: &[u64],
-    froms: &[u32],
-    tos: &[u32],
-    values: &[u16],
+    search: &Search<'_>,
 ) -> Option<Best>
-    ensures { (hs : List CandidateReg) → Computed order regs.now weights.now hs → length hs + length class.now ≤ 129 → result ≡ evict_in (lent ends.now rests.now uses.now froms.now tos.now values.now) maps.now (held_in words.now) spills.now flag own None (offers_from hs class.now 0) }
+    ensures { result ≡ evict_in (lent_for search.now) search.now.maps.now (held_in search.now.words.now) search.now.spills.now flag own None (offers order.now) }
 {
     let mut best = None;
-    for place in 0..129 {
-        match candidate(order, regs, weights, class, place) {
-            Offer::End => return best,
-            Offer::Skip => {}
-            Offer::Reg(c) => {
-                let units = at(maps, c.reg as usize);
-                let so_far = cost_so_far(&best);
-                let limit = by_cost(flag, own, c, so_far);
-                let Some(t) = limit.try_reports(
-                    units, words, spills, ends, rests, uses, froms, tos, values,
-                ) else {
-                    continue;
-                };
-                if is_better(flag, own, c, &t, so_far) {
-                    best = Some(found(c, t));
-                }
-            }
+    for place in 0..order.len() {
+        let Some(c) = order.candidate(place) else {
+            continue;
+        };
+        let units = at(search.maps, c.reg as usize);
+        let so_far = cost_so_far(&best);
+        let limit = by_cost(flag, own, c, so_far);
+        let Some(t) = limit.try_reports(units, search) else {
+            continue;
+        };
+        if is_better(flag, own, c, &t, so_far) {
+            best = Some(found(c, t));
         }
     }
     best
@@ -183,33 +148,19 @@ fn is_preferred(clear: CandidateReg, c: CandidateReg, t: &Tried) -> bool
     clear.preference_weight < c.preference_weight && t.every_report < c.preference_weight
 }
 
-// The first hinted candidate that is preferred to the clear one, with its holders. There are at most 65 hinted ones.
+// The first hinted candidate that is preferred to the clear one, with its holders.
 pub fn try_evict_for_preferred_reg(
     clear: CandidateReg,
-    order: AllocationOrder,
-    regs: &[u8],
-    weights: &[f32],
-    maps: &[u64],
-    words: &[u64],
-    spills: &[f32],
-    ends: &[u64],
-    rests: &[u64],
-    uses: &[u64],
-    froms: &[u32],
-    tos: &[u32],
-    values: &[u16],
+    hinted: &HintedRegs,
+    search: &Search<'_>,
 ) -> Option<Best>
-    ensures { (hs : List CandidateReg) → Computed order regs.now weights.now hs → length hs ≤ 65 → result ≡ prefer_in (lent ends.now rests.now uses.now froms.now tos.now values.now) maps.now (held_in words.now) spills.now clear hs }
+    ensures { result ≡ prefer_in (lent_for search.now) search.now.maps.now (held_in search.now.words.now) search.now.spills.now clear (listed hinted.now) }
 {
-    for place in 0..order.count.min(65) {
-        let c = CandidateReg {
-            reg: at(regs, place),
-            preference_weight: at(weights, place),
-        };
-        let units = at(maps, c.reg as usize);
+    for place in 0..hinted.count {
+        let c = hinted.regs[place];
+        let units = at(search.maps, c.reg as usize);
         let limit = Limit::ByWeight(c.preference_weight);
-        let Some(t) = limit.try_reports(units, words, spills, ends, rests, uses, froms, tos, values)
-        else {
+        let Some(t) = limit.try_reports(units, search) else {
             continue;
         };
         if is_preferred(clear, c, &t) {

@@ -2,10 +2,11 @@
 ghost use Rattle.std.specs.Prelude.{◌≡◌, false, replicate};
 ghost use Rattle.job.specs.Model.{zero_weight};
 ghost use Rattle.record_words.specs.Words.{held_in};
-ghost use Rattle.matrix.specs.Walk.{lent};
+ghost use Rattle.stage.specs.Searching.{lent_for};
 ghost use Rattle.stage.specs.EvictWalk.{can_win, zero_cost, tried, tried_below};
 ghost use Rattle.stage.specs.AllocateWalk.{reports_on};
 
+use crate::search::Search;
 use allocator::EvictCost;
 use evict_costs::{is_cheaper, may_evict, with_holder};
 use lent::at;
@@ -65,34 +66,26 @@ fn nothing_tried() -> Tried
 }
 
 impl Limit {
-    // What the check of the segments on a register's units says of evicting its holders, where `words` has the records: each holder once for the cost,
+    // What the check of the segments on a register's units says of evicting its holders: each holder once for the cost,
     // and at every report for the sum, in the order of the reports. A fixed report rules the candidate out, and so does one after which it can no longer
     // win; as weights never fall when they are added, the rest would not help it.
-    pub fn try_reports(
-        self,
-        units: u64,
-        words: &[u64],
-        spills: &[f32],
-        ends: &[u64],
-        rests: &[u64],
-        uses: &[u64],
-        froms: &[u32],
-        tos: &[u32],
-        values: &[u16],
-    ) -> Option<Tried>
-        ensures { result ≡ tried_below self (held_in words.now) spills.now (reports_on (lent ends.now rests.now uses.now froms.now tos.now values.now) units) }
+    pub fn try_reports(self, units: u64, search: &Search<'_>) -> Option<Tried>
+        ensures { result ≡ tried_below self (held_in search.now.words.now) search.now.spills.now (reports_on (lent_for search.now) units) }
     {
+        let matrix = search.matrix;
+        let segments = search.segments;
         let mut t = nothing_tried();
-        let mut c = enter(ends, froms, units, false);
-        while let Some((report, next)) = c.next(ends, rests, uses, froms, tos, values) {
+        let mut c = enter(matrix.table.ends, segments, units, false);
+        // a `for` is no plainer: each report comes with the position after it, and an iterator would keep what is lent
+        while let Some((report, next)) = c.next(matrix, segments) {
             let InterferenceKind::VirtReg(v) = report.kind else {
                 return None;
             };
             c = next;
             let i = v as usize;
             if i < 512 {
-                let weight = held_at(words, i);
-                t.cost = with_holder(t.cost, t.holders[i], weight, at(spills, i));
+                let weight = held_at(search.words, i);
+                t.cost = with_holder(t.cost, t.holders[i], weight, at(search.spills, i));
                 t.every_report += weight;
                 t.holders[i] = true;
                 if !can_win(self, t.cost, t.every_report) {

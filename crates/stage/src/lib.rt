@@ -5,3 +5,4 @@
 
 pub mod allocate;
 pub mod evict;
+pub mod search;

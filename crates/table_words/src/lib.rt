@@ -2,6 +2,8 @@
 // their refusals, and the search by halves. The crate matrix has the check over these, entries and placing what changes the table.
 #![tactic(auto)]
 
+pub mod buffers;
 pub mod ranges;
 pub mod search;
+pub mod segments;
 pub mod words;

@@ -1,42 +1,47 @@
 // Placing and evicting over segment structs.
 ghost use Rattle.std.specs.Prelude.{ltb, length};
-ghost use Rattle.entries.specs.Moves.{words};
-ghost use Rattle.segment_fields.specs.Apart.{max_segments, froms_of, tos_of};
-ghost use Rattle.segment_calls.specs.Answers.{AssignAnswer, EvictAnswer};
+ghost use Rattle.entries.specs.Moves.{words_of};
+ghost use Rattle.table_words.specs.Buffers.{SameTable};
+ghost use Rattle.table_words.specs.Segments.{froms_of, tos_of};
+ghost use Rattle.thin.specs.Answers.{max_segments, AssignAnswer, EvictAnswer};
 
+use crate::is_long;
 use reg_matrix::{Refusal, ValueSegment};
-use segment_calls::{assign_fields, evict_fields};
-use segment_fields::taking::take_apart;
+use table_words::buffers::TableMut;
 
 // Places v in the register of this map of units: on each unit every segment replaces the fixed uses inside it by one entry, whose index is
 // the first fixed use of the unit not starting before the segment, or no index if it replaced none. The segments' values do not matter
-// here. Refused with 15 or 8, in this order, and then nothing is changed. More than 512 segments are refused with 15: their fields have no
-// room.
+// here. Refused with 15 or 8, in this order, and then nothing is changed. More than 512 segments are refused with 15.
 pub fn assign(
     segments: &[ValueSegment],
-    ends: &mut [u64],
-    rests: &mut [u64],
+    table: &mut TableMut<'_>,
     uses: &[u64],
     v: u16,
     map: u64,
 ) -> Result<(), Refusal>
-    ensures { AssignAnswer (ltb max_segments (length segments.now)) v map uses.now (froms_of segments.now) (tos_of segments.now) (words ends.old rests.old) (words ends.new rests.new) result }
+    ensures same { SameTable table.old table.new }
+    ensures answer { AssignAnswer (ltb max_segments (length segments.now)) v map uses.now (froms_of segments.now) (tos_of segments.now) (words_of table.old) (words_of table.new) result }
 {
-    assign_fields(take_apart(segments), ends, rests, uses, v, map)
+    if is_long(segments) {
+        return Err(Refusal::ShortBuffer);
+    }
+    placing::assign::assign(table, uses, v, map, segments)
 }
 
 // Evicts v from the register of this map of units: on each unit the entry of v that ends with a segment goes, and the fixed uses that it
-// replaced come back. Refused with 15 or 8, in this order, and then nothing is changed. More than 512 segments are refused with 15: their
-// fields have no room.
+// replaced come back. Refused with 15 or 8, in this order, and then nothing is changed. More than 512 segments are refused with 15.
 pub fn evict(
     segments: &[ValueSegment],
-    ends: &mut [u64],
-    rests: &mut [u64],
+    table: &mut TableMut<'_>,
     uses: &[u64],
     v: u16,
     map: u64,
 ) -> Result<(), Refusal>
-    ensures { EvictAnswer (ltb max_segments (length segments.now)) v map uses.now (tos_of segments.now) (words ends.old rests.old) (words ends.new rests.new) result }
+    ensures same { SameTable table.old table.new }
+    ensures answer { EvictAnswer (ltb max_segments (length segments.now)) v map uses.now (tos_of segments.now) (words_of table.old) (words_of table.new) result }
 {
-    evict_fields(take_apart(segments), ends, rests, uses, v, map)
+    if is_long(segments) {
+        return Err(Refusal::ShortBuffer);
+    }
+    placing::assign::evict(table, uses, v, map, segments)
 }

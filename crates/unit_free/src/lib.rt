@@ -4,37 +4,32 @@
 ghost use Rattle.std.specs.Prelude.{◌≡◌, [], ◌∷◌, length};
 ghost use Rattle.reg_matrix.specs.Questions.{spare_refusal};
 ghost use Rattle.reg_matrix.specs.Refused.{numbered, or_refused};
-ghost use Rattle.entries.specs.Moves.{words};
+ghost use Rattle.entries.specs.Moves.{words_in};
 ghost use Rattle.unit_free.specs.Spare.{free_at, range};
 
 use lent::at;
 use reg_matrix::Refusal;
+use table_words::buffers::Table;
 use table_words::search::find;
 
 // Whether the unit's first entry that ends past `from`, if there is one, starts past `to`.
 #[tactic(auto, unfolding(crate::specs::Spare::free_at))]
-fn free_at(ends: &[u64], rests: &[u64], unit: u8, from: u32, to: u32) -> bool
-    ensures { result ≡ free_at unit from to (words ends.now rests.now) }
+fn free_at(table: Table<'_>, unit: u8, from: u32, to: u32) -> bool
+    ensures { result ≡ free_at unit from to (words_in table.entry) }
 {
-    let place = find(ends, unit as u64 * 0x1_0000_0000 + from as u64 + 1);
+    let place = find(table.ends, unit as u64 * 0x1_0000_0000 + from as u64 + 1);
     !(place < 2560
-        && at(ends, place) / 0x1_0000_0000 == unit as u64
-        && at(rests, place) / 0x1_0000_0000 <= to as u64)
+        && at(table.ends, place) / 0x1_0000_0000 == unit as u64
+        && at(table.rests, place) / 0x1_0000_0000 <= to as u64)
 }
 
 // Whether the unit is spare from `from` to `to`, the end included, as in the source: it is unless the first entry ending past `from` starts
 // at or before `to`. Refused with 15, 8, 5 or 6, in this order.
 #[tactic(auto, unfolding(reg_matrix::specs::Questions::spare_refusal, reg_matrix::specs::Refusals::refusal, reg_matrix::specs::Refusals::short_buffer, reg_matrix::specs::Refusals::range_refusal))]
-pub fn is_unit_free(
-    ends: &[u64],
-    rests: &[u64],
-    unit: u8,
-    from: u32,
-    to: u32,
-) -> Result<bool, Refusal>
-    ensures { numbered result ≡ or_refused (spare_refusal (length ends.now ∷ length rests.now ∷ []) unit (range from to)) (free_at unit from to (words ends.now rests.now)) }
+pub fn is_unit_free(table: Table<'_>, unit: u8, from: u32, to: u32) -> Result<bool, Refusal>
+    ensures { numbered result ≡ or_refused (spare_refusal (length table.entry.ends.now ∷ length table.entry.rests.now ∷ []) unit (range from to)) (free_at unit from to (words_in table.entry)) }
 {
-    if ends.len() < 2560 || rests.len() < 2560 {
+    if table.ends.len() < 2560 || table.rests.len() < 2560 {
         return Err(Refusal::ShortBuffer);
     }
     if 64 <= unit {
@@ -46,5 +41,5 @@ pub fn is_unit_free(
     if from % 4 == 3 || to % 4 == 3 {
         return Err(Refusal::BadPoint);
     }
-    Ok(free_at(ends, rests, unit, from, to))
+    Ok(free_at(table, unit, from, to))
 }

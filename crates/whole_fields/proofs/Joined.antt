@@ -20,7 +20,7 @@ use Rattle.job.specs.Parser.{Parser, Parsed, refused, parsed, and_then, done, if
 use Rattle.job.specs.Load.{register, class, reservation, virt_reg_after, job_fields}
 use Rattle.job.specs.Layout.{starts_from, JobSlices, probe_of, header_of}
 use Rattle.reader.specs.Read.{Stored, ClassesAt, all_members, table_of, segments_of_all}
-use Rattle.fields.specs.Virt.{VirtsAt, TableOut}
+use Rattle.fields.specs.Virt.{VirtsIn, TableOut}
 use Rattle.whole_fields.specs.Probe.{probe_field, range_of}
 use Rattle.whole_fields.specs.Whole.{rest_of, last_of, FirstSizes, FirstOut, LastOut, JobAt, JobOut}
 use Rattle.whole_fields.specs.declared.FirstTables.{FirstTables}
@@ -100,16 +100,18 @@ module _ (s : List ℕ) (at : ℕ) {p : Parsed Job} {t : FirstTables} {rs : List
   pub virts_refused : {e : Refusal} {stored : Job → Type 0} → table_of (bit 3 t.map) 2 512 (virt_reg_after t.regs t.classes) (drop at s) ≡ refused (number_of e) → JobOut s p (Err e) stored
   virts_refused e = record { parts = w.3 ∙ virts_refuse w.4 (drop at s) e }
 
+-- B is as lent, B₁ as the first tables leave it, and B' as the virtual registers do
 pub all_read :
-    (s : List ℕ) (at : ℕ) {p : Parsed Job} {t : FirstTables} {es : List Entry → Type 0} (B B' : JobSlices) {h b : List ℕ}
-    → FirstOut s p (Ok (t, at)) (λ rs. Stored (λ x. x) B.j64 0 rs B'.j64) (ClassesAt B.j16 B.j8 h b) es
+    (s : List ℕ) (at : ℕ) {p : Parsed Job} {t : FirstTables} {es : List Entry → Type 0} (B B₁ B' : JobSlices)
+    → FirstOut s p (Ok (t, at)) (λ rs. Stored (λ x. x) B.j64 0 rs B₁.j64) (ClassesAt B.j16 B.j8 B₁.j16 B₁.j8) es
+    → (B₁.j32 ≡ B.j32) × (B₁.jf ≡ B.jf)
+    → B'.j64 ≡ B₁.j64
     → (next : ℕ) {v n g : ℕ} (r : Result (JobHeader × TableSizes × ℕ) Refusal)
-    → TableOut s (table_of (bit 3 t.map) 2 512 (virt_reg_after t.regs t.classes) (drop at s)) (Ok (v, n, g, next))
-    (VirtsAt B.j32 h b B.jf B'.j32 B'.j16 B'.j8 B'.jf)
+    → TableOut s (table_of (bit 3 t.map) 2 512 (virt_reg_after t.regs t.classes) (drop at s)) (Ok (v, n, g, next)) (VirtsIn B₁ B')
     → LastOut s next t v g r
     → JobOut s p r (JobAt B B' es)
-all_read s at B B' w next r x o =
+all_read s at B B₁ B' w k m next r x o =
     let eh = w.6.starts.is ∙ ap (λ (l : List ℕ). sets B.j16 0 l) (map-id (starts_from length 0 w.1)) in
     let eb = w.6.members.is ∙ ap (λ (l : List ℕ). sets B.j8 0 l) (map-id (all_members w.1)) in
     job_out w.4 (drop at s) x.1 s next r refl w.3 x.2 x.4
-    (λ q b. record { regs = w.5.is ∙ ap (λ (l : List ℕ). sets B.j64 0 l) (map-id w.0); virt_regs = rw (eh, eb) at x.7; reserved = w.7 }) o
+    (λ q b. record { regs = m ∙ w.5.is ∙ ap (λ (l : List ℕ). sets B.j64 0 l) (map-id w.0); virt_regs = rw (k.0, eh, eb, k.1) at x.7; reserved = w.7 }) o

@@ -3,15 +3,17 @@
 #![tactic(auto)]
 
 ghost use Rattle.std.specs.Prelude.{◌≡◌, drop};
-ghost use Rattle.job.specs.Layout.{slices};
 ghost use Rattle.job.specs.Load.{job_fields};
-ghost use Rattle.reader.specs.Read.{Field, Stored, ClassesAt, FixedAt};
+ghost use Rattle.job_parts.specs.Lent.{slices_in, SameJob};
+ghost use Rattle.reader.specs.Read.{Field, Stored, ClassesAt};
+ghost use Rattle.fixed_reader.specs.Fixed.{FixedIn, SameFixed};
 ghost use Rattle.whole_fields.specs.Probe.{probe_view, probe_field};
 ghost use Rattle.whole_fields.specs.Whole.{FirstOut, LastOut, JobOut, JobAt};
 
 use fields::virt::virt_table;
-use fixed_reader::fixed_table;
+use fixed_reader::{LentFixed, fixed_table};
 use job::JobHeader;
+use job_parts::lent_job::LentJobMut;
 use reader::read::little;
 use reg_matrix::Refusal;
 use reg_reader::{class_table, reg_table};
@@ -54,28 +56,24 @@ pub struct FirstTables {
     pub fixed: usize,
 }
 
-// The tables before the virtual registers, stored from place 0 on: a fixed reservation as unit, start, end and use number. Answers with the position
-// after them.
+// The tables before the virtual registers, stored from place 0 on. Answers with the position after them.
 #[tactic(auto, unfolding(job::specs::Load::job_fields))]
 fn first_tables(
     s: &[u8],
-    j64: &mut [u64],
-    j16: &mut [u16],
-    j8: &mut [u8],
-    units: &mut [u8],
-    starts: &mut [u32],
-    stops: &mut [u32],
-    uses: &mut [u32],
+    job: &mut LentJobMut<'_>,
+    fixed: &mut LentFixed<'_>,
 ) -> Result<(FirstTables, usize), Refusal>
-    ensures { FirstOut s.now (job_fields s.now) result (λ rs. Stored (λ x. x) j64.old 0 rs j64.new) (ClassesAt j16.old j8.old j16.new j8.new) (FixedAt units.old starts.old stops.old uses.old units.new starts.new stops.new uses.new) }
+    ensures same { SameJob job.old job.new × SameFixed fixed.old fixed.new }
+    ensures others { (job.new.j32.now ≡ job.old.j32.now) × (job.new.jf.now ≡ job.old.jf.now) }
+    ensures read { FirstOut s.now (job_fields s.now) result (λ rs. Stored (λ x. x) job.old.j64.now 0 rs job.new.j64.now) (ClassesAt job.old.j16.now job.old.j8.now job.new.j16.now job.new.j8.now) (FixedIn fixed.old fixed.new) }
 {
     let (m, at1) = little::<1>(s, 0)?;
     if 64 <= m {
         return Err(Refusal::UnfitMap);
     }
-    let (rn, at2) = reg_table(s, at1, m / 1 % 2 == 1, j64)?;
-    let (cn, _, at3) = class_table(s, at2, m / 2 % 2 == 1, rn as u8, j16, j8)?;
-    let (en, next) = fixed_table(s, at3, m / 4 % 2 == 1, units, starts, stops, uses)?;
+    let (rn, at2) = reg_table(s, at1, m / 1 % 2 == 1, job.j64)?;
+    let (cn, _, at3) = class_table(s, at2, m / 2 % 2 == 1, rn as u8, job.j16, job.j8)?;
+    let (en, next) = fixed_table(s, at3, m / 4 % 2 == 1, fixed)?;
     let tables = FirstTables {
         map: m as u8,
         regs: rn as u8,
@@ -123,24 +121,18 @@ fn last_fields(
     Ok((header, sizes, next))
 }
 
-// All fields of a job: what goes by value of it, the sizes of its tables, and the position after it. What it holds is stored in its slices, where there
-// is room, and the fixed reservations in four slices of their own: unit, start, end and use number.
+// All fields of a job: what goes by value of it, the sizes of its tables, and the position after it. What it holds is stored in its slices, where
+// there is room, and the fixed reservations in four slices of their own.
 pub fn job_fields(
     s: &[u8],
-    j64: &mut [u64],
-    j32: &mut [u32],
-    j16: &mut [u16],
-    j8: &mut [u8],
-    jf: &mut [f32],
-    units: &mut [u8],
-    starts: &mut [u32],
-    stops: &mut [u32],
-    uses: &mut [u32],
+    job: &mut LentJobMut<'_>,
+    fixed: &mut LentFixed<'_>,
 ) -> Result<(JobHeader, TableSizes, usize), Refusal>
-    ensures { JobOut s.now (job_fields s.now) result (JobAt (slices j64.old j32.old j16.old j8.old jf.old) (slices j64.new j32.new j16.new j8.new jf.new) (FixedAt units.old starts.old stops.old uses.old units.new starts.new stops.new uses.new)) }
+    ensures same { SameJob job.old job.new × SameFixed fixed.old fixed.new }
+    ensures read { JobOut s.now (job_fields s.now) result (JobAt (slices_in job.old) (slices_in job.new) (FixedIn fixed.old fixed.new)) }
 {
-    let (t, at) = first_tables(s, j64, j16, j8, units, starts, stops, uses)?;
+    let (t, at) = first_tables(s, job, fixed)?;
     let stands = t.map / 8 % 2 == 1;
-    let (vn, _, gn, next) = virt_table(s, at, stands, t.regs, t.classes, j32, j16, j8, jf)?;
+    let (vn, _, gn, next) = virt_table(s, at, stands, t.regs, t.classes, job)?;
     last_fields(s, next, t, vn, gn)
 }

@@ -6,7 +6,7 @@ ghost use Rattle.words.specs.Words.{header_words, header_in, probe_in, probe_wor
 use job::JobHeader;
 use lent::{at, put};
 
-// The probe range of three words: whether there is one, and its points.
+// The probe range of three words, as C has them: whether there is one, and its points.
 #[tactic(auto, unfolding(crate::specs::Words::probe_in))]
 fn probe_of(has: u64, from: u64, to: u64) -> Option<(u32, u32)>
     ensures { result ≡ probe_in has from to }

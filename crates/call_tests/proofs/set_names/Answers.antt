@@ -1,12 +1,6 @@
-use Prim.Native.Nat.{◌-◌}
-use mathlib.Core.Path.{◌≡◌, sym, ◌∙◌}
-use native.Mathlib.Omega.{arith}
+use mathlib.Core.Path.{sym, ◌∙◌}
 use Rattle.reg_matrix.proofs.Places.{any_more, any_end}
 use Rattle.call_tests.proofs.set_names.Goals as goal
-
-pub loop-k-init : goal.loop-k-init
-loop-k-init c = let e : c.args.n - 0 ≡ c.args.n = omega arith in
-    rw e
 
 pub returns-then-hint_names : goal.returns-then-hint_names
 returns-then-hint_names c = sym (c.loop-k.invariant ∙ any_more _ c.args.n c.loop-k.k c.loop-k-test.true ∙ rw (← c.hint_names.ensures, c.if-hint_names.true))

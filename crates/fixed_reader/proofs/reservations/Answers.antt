@@ -1,6 +1,6 @@
 use Prim.Native.Nat.{◌+◌}
 use native.Mathlib.Omega.{arith}
-use mathlib.Core.Path.{◌≡◌, sym, ◌∙◌}
+use mathlib.Core.Path.{◌≡◌, refl, sym, ◌∙◌}
 use mathlib.Core.List.{[], ◌∷◌, ◌++◌}
 use lib.ListN.{length}
 use Rattle.std.proofs.lemmas.Result.{err_from_is_err_and}
@@ -10,10 +10,10 @@ use Rattle.reader.proofs.Tables.{ends_none, ends_more, after_ends}
 use Rattle.fixed_reader.proofs.reservations.Goals as goal
 
 pub loop-i-init : goal.loop-i-init
-loop-i-init c = ([], begin, ends_none, record { units = none_stored; froms = none_stored; tos = none_stored; uses = none_stored })
+loop-i-init c = ([], begin, ends_none, record { units = none_stored; froms = none_stored; tos = none_stored; uses = none_stored }, record { units = refl; froms = refl; tos = refl; uses = refl })
 
-pub returns-in_err-e : goal.returns-in_err-e
-returns-in_err-e c =
+pub returns-in_err-e-clause-read : goal.returns-in_err-e-clause-read
+returns-in_err-e-clause-read c =
     let p = err_from_is_err_and c.from_residual.result c.from_residual.ensures.1 in
     rw (p.1, p.2) (stops c.loop-i.invariant.1 c.loop-i-test.true (after_ends c.loop-i.invariant.2 _ ∙ sym c.in_err-e.ensures.view))
 
@@ -31,7 +31,8 @@ loop-i-preserved c =
         tos = more_stored v.3.tos e n c.put-in-loop-i-3.ensures;
         uses = more_stored v.3.uses e n (c.put-in-loop-i-4.ensures ∙ rw c.use_number.ensures);
       },
+      record { units = v.4.units; froms = v.4.froms; tos = v.4.tos; uses = v.4.uses },
     )
 
-pub returns : goal.returns
-returns c = (c.loop-i.invariant.0, finish c.loop-i.invariant.1 c.loop-i-test.false, c.loop-i.invariant.3)
+pub returns-clause-read : goal.returns-clause-read
+returns-clause-read c = (c.loop-i.invariant.0, finish c.loop-i.invariant.1 c.loop-i-test.false, c.loop-i.invariant.3)

@@ -1,6 +1,7 @@
 use borrow.Author.Rules.{rules}
 use native.Mathlib.Omega.{arith}
-use mathlib.Core.Path.{refl, ap, ◌∙◌}
+use mathlib.Core.Path.{◌≡◌, ap, ◌∙◌}
+use lib.ListN.{length}
 use Rattle.std.specs.Prelude.{Ok}
 use Rattle.reg_matrix.specs.Refused.{numbered}
 use Rattle.sheets.proofs.NextLaws.{next_fewer}
@@ -9,22 +10,30 @@ use Rattle.printer.proofs.WriteLaws.{lines_short, lines_end, line_room, line_wri
 use Rattle.printer.proofs.write_lines.Goals as goal
 
 pub loop-n-init : goal.loop-n-init
-loop-n-init c = (count_start _ _ _ (search rules), c.requires, refl)
+loop-n-init c = count_start _ _ _ (search rules)
 
 pub returns-in-Ok-None : goal.returns-in-Ok-None
-returns-in-Ok-None c = lines_end _ _ _ _ _ c.loop-n.invariant.0 _ _ c.loop-n.invariant.1 c.next.auto.line _ c.next.ensures (ap numbered (c.in-Ok-None.is ∙ ap Ok c.in-Ok-None.field-0-is))
+returns-in-Ok-None c =
+    let sized : length c.loop-n.line ≡ 256 = search rules in
+    lines_end _ _ _ _ _ c.loop-n.invariant _ _ (omega (arith, sized)) c.next.auto.line _ c.next.ensures (ap numbered (c.in-Ok-None.is ∙ ap Ok c.in-Ok-None.field-0-is))
 
 pub returns-in-Err : goal.returns-in-Err
-returns-in-Err c = lines_short _ _ _ _ _ c.loop-n.invariant.0
+returns-in-Err c = lines_short _ _ _ _ _ c.loop-n.invariant
 
 pub returns-then-not-front : goal.returns-then-not-front
-returns-then-not-front c = lines_short _ _ _ _ _ c.loop-n.invariant.0
+returns-then-not-front c = lines_short _ _ _ _ _ c.loop-n.invariant
 
 pub overflow_add-bytes : goal.overflow_add-bytes
-overflow_add-bytes c = record { fits = omega (arith, line_room _ _ _ _ _ c.loop-n.invariant.0 _ _ c.loop-n.invariant.1 c.next.auto.line _ c.next.ensures _ _ (ap numbered (c.in-Ok-Some.is ∙ ap Ok c.in-Ok-Some.field-0-is)) _ c.write_front-front.ensures) }
+overflow_add-bytes c =
+    let sized : length c.loop-n.line ≡ 256 = search rules in
+    record { fits = omega (arith, line_room _ _ _ _ _ c.loop-n.invariant _ _ (omega (arith, sized)) c.next.auto.line _ c.next.ensures _ _ (ap numbered (c.in-Ok-Some.is ∙ ap Ok c.in-Ok-Some.field-0-is)) _ c.write_front-front.ensures) }
 
 pub loop-n-smaller : goal.loop-n-smaller
-loop-n-smaller c = next_fewer _ _ _ _ _ _ _ _ c.next.ensures (ap numbered (c.in-Ok-Some.is ∙ ap Ok c.in-Ok-Some.field-0-is)) c.loop-n.invariant.1
+loop-n-smaller c =
+    let sized : length c.loop-n.line ≡ 256 = search rules in
+    next_fewer _ _ _ _ _ _ _ _ c.next.ensures (ap numbered (c.in-Ok-Some.is ∙ ap Ok c.in-Ok-Some.field-0-is)) (omega (arith, sized))
 
 pub loop-n-preserved : goal.loop-n-preserved
-loop-n-preserved c = (line_written _ _ _ _ _ c.loop-n.invariant.0 _ _ c.loop-n.invariant.1 c.next.auto.line _ c.next.ensures _ _ (ap numbered (c.in-Ok-Some.is ∙ ap Ok c.in-Ok-Some.field-0-is)) _ c.write_front-front.ensures c.if-not-front.false, omega (arith, c.loop-n.invariant.1, c.next.auto.line), c.next.auto.line ∙ c.loop-n.invariant.2)
+loop-n-preserved c =
+    let sized : length c.loop-n.line ≡ 256 = search rules in
+    line_written _ _ _ _ _ c.loop-n.invariant _ _ (omega (arith, sized)) c.next.auto.line _ c.next.ensures _ _ (ap numbered (c.in-Ok-Some.is ∙ ap Ok c.in-Ok-Some.field-0-is)) _ c.write_front-front.ensures c.if-not-front.false

@@ -1,6 +1,4 @@
 -- What was written so far and the lines left are together the whole. The measure is how many lines are left. Assumes nothing.
-use Prim.Native.Nat.{◌≤◌}
-use mathlib.Core.Path.{◌≡◌}
 use lib.ListN.{length}
 use Rattle.lines.specs.LineTexts.{lent}
 use Rattle.listing.specs.Walk.{lines_from}
@@ -9,7 +7,7 @@ use Rattle.sheets.proofs.CountLaws.{Counted}
 use Rattle.printer.proofs.write_lines.Given as goal
 
 abbrev pub invariant-loop-n : goal.invariant-loop-n
-invariant-loop-n l = Counted (lent l.maps l.ends l.rests) l.words l.initial.c l.c l.bytes × (256 ≤ length l.line) × (length l.line ≡ length l.initial.line)
+invariant-loop-n l = Counted (lent l.maps l.table.ends.now l.table.rests.now) l.words l.initial.c l.c l.bytes
 
 abbrev pub decreases-loop-n : goal.decreases-loop-n
-decreases-loop-n l = length (lines_from l.c (records_in l.words) (lent l.maps l.ends l.rests))
+decreases-loop-n l = length (lines_from l.c (records_in l.words) (lent l.maps l.table.ends.now l.table.rests.now))

@@ -4,20 +4,14 @@ use mathlib.Core.Path.{◌≡◌, sym}
 use mathlib.Core.List.{[], ◌∷◌, ◌++◌}
 use lib.ListN.{length}
 use Rattle.std.proofs.lemmas.Result.{err_from_is_err_and}
-use Rattle.reader.proofs.Reading.{begin, more, stops, ends}
-use Rattle.reader.proofs.Stores.{none_stored, more_stored}
+use Rattle.reader.proofs.Reading.{more, stops, ends}
+use Rattle.reader.proofs.Stores.{more_stored}
 use Rattle.reg_reader.proofs.members.Goals as goal
-
-pub loop-i-init : goal.loop-i-init
-loop-i-init c = ([], begin, none_stored)
 
 pub returns-in_err-r : goal.returns-in_err-r
 returns-in_err-r c =
     let p = err_from_is_err_and c.from_residual.result c.from_residual.ensures.1 in
     rw (p.1, p.2) (stops c.loop-i.invariant.1 c.loop-i-test.true (sym c.in_err-r.ensures.view))
-
-pub overflow_cast-r : goal.overflow_cast-r
-overflow_cast-r c = record { fits = omega (arith, c.in_ok-r.ensures.small, c.requires) }
 
 pub loop-i-preserved : goal.loop-i-preserved
 loop-i-preserved c =

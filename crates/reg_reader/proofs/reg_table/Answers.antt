@@ -7,11 +7,6 @@ use Rattle.reader.proofs.Reading.{each_length}
 use Rattle.reader.proofs.Tables.{counted}
 use Rattle.reg_reader.proofs.reg_table.Goals as goal
 
-pub returns-in_err-k : goal.returns-in_err-k
-returns-in_err-k c =
-    let p = err_from_is_err_and c.from_residual.result c.from_residual.ensures.1 in
-    rw (p.1, p.2) (counted (λ before. register) c.args.stands 1 64 _ ∙ rw (← c.in_err-k.ensures.view))
-
 pub returns-in_err-next : goal.returns-in_err-next
 returns-in_err-next c =
     let p = err_from_is_err_and c.from_residual-in_err-next.result c.from_residual-in_err-next.ensures.1 in

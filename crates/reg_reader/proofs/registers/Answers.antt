@@ -4,12 +4,9 @@ use mathlib.Core.Path.{◌≡◌, sym}
 use mathlib.Core.List.{[], ◌∷◌, ◌++◌}
 use lib.ListN.{length}
 use Rattle.std.proofs.lemmas.Result.{err_from_is_err_and}
-use Rattle.reader.proofs.Reading.{begin, more, stops, ends}
-use Rattle.reader.proofs.Stores.{none_stored, more_stored}
+use Rattle.reader.proofs.Reading.{more, stops, ends}
+use Rattle.reader.proofs.Stores.{more_stored}
 use Rattle.reg_reader.proofs.registers.Goals as goal
-
-pub loop-i-init : goal.loop-i-init
-loop-i-init c = ([], begin, none_stored)
 
 pub returns-in_err-m : goal.returns-in_err-m
 returns-in_err-m c =

@@ -1,8 +1,11 @@
--- The numbers below i are done, and the rest of the set from i on makes the whole.
-use mathlib.Core.List.{[]}
-use Rattle.job.specs.Layout.{slices, lists_in}
+-- The numbers below v are done, and the rest of the set from v on makes the whole; the state is lent in the same slices.
+use Rattle.table_words.specs.Buffers.{SameState}
+use Rattle.job.specs.Layout.{lists_in}
+use Rattle.job_parts.specs.Lent.{slices_of}
 use Rattle.context.proofs.CarryLaws.{EvictedTo}
 use Rattle.context.proofs.carry.evict_all.Given as goal
 
 abbrev pub invariant-loop-v : goal.invariant-loop-v
-invariant-loop-v l = EvictedTo l.v l.gone (lists_in (slices l.j64 l.j32 l.j16 [] [])) l.initial.ends l.initial.rests l.initial.queue l.initial.words l.ends l.rests l.queue l.words
+invariant-loop-v l =
+    SameState l.initial.state l.state
+    × EvictedTo l.v l.gone (lists_in (slices_of l.job)) l.initial.state l.initial.words l.state l.words

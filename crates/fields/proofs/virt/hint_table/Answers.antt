@@ -1,14 +1,10 @@
 use native.Mathlib.Omega.{arith}
-use mathlib.Core.Path.{refl, ◌∙◌}
+use mathlib.Core.Path.{◌∙◌}
 use mathlib.Core.List.{[]}
-use borrow.Author.Tests.{eq-eqb, ne_eqb}
+use borrow.Author.Tests.{eq-eqb}
 use Rattle.reader.proofs.Reading.{each_length}
-use Rattle.reader.proofs.Stores.{none_stored}
 use Rattle.job.specs.Load.{hints, hint}
 use Rattle.fields.proofs.virt.hint_table.Goals as goal
-
-pub returns-then-m-ne1 : goal.returns-then-m-ne1
-returns-then-m-ne1 c = ([], rw (ne_eqb _ _ c.if-m-ne1.true), refl, omega arith, record { regs = none_stored; weights = none_stored })
 
 pub returns : goal.returns
 unfolding hints

@@ -1,5 +1,4 @@
-use native.Mathlib.Omega.{arith}
-use mathlib.Core.Path.{◌∙◌}
+use mathlib.Core.Path.{refl, ◌∙◌}
 use Rattle.std.proofs.lemmas.Result.{err_from_is_err_and}
 use Rattle.job.specs.Load.{virt_reg_after}
 use Rattle.reader.proofs.Reading.{stops, ends}
@@ -8,34 +7,28 @@ use Rattle.fields.proofs.Turns.{virts_begun, virts_more}
 use Rattle.fields.proofs.virt.virt_regs.Goals as goal
 
 pub loop-i-init : goal.loop-i-init
-loop-i-init c = virts_begun _ _ _ _ _ _ _ _ _
+loop-i-init c = (virts_begun _ _ _ _ _ _ _ _ _, record { j64 = refl; j32 = refl; j16 = refl; j8 = refl; jf = refl }, refl)
 
-pub virt_reg-requires : goal.virt_reg-requires
-virt_reg-requires c = omega (arith, c.loop-i.invariant.4, c.loop-i.invariant.5)
-
-pub returns-in_err-f : goal.returns-in_err-f
+pub returns-in_err-f-clause-read : goal.returns-in_err-f-clause-read
 unfolding virt_reg_after
-returns-in_err-f c =
+returns-in_err-f-clause-read c =
     let p = err_from_is_err_and c.from_residual.result c.from_residual.ensures.1 in
-    let v = c.loop-i.invariant in
+    let v = c.loop-i.invariant.0 in
     let eh = hints_in_length v.0 ∙ v.2 in
     let eg = segments_in_length v.0 ∙ v.3 in
-    rw (p.1, p.2) (stops v.1 c.loop-i-test.true (rw (v.1.read, eh, eg) c.in_err-f.ensures))
-
-pub overflow_add-h : goal.overflow_add-h
-overflow_add-h c = record { fits = omega (arith, c.in_ok-f.ensures.3, c.in_ok-f.ensures.4) }
-
-pub overflow_add-g : goal.overflow_add-g
-overflow_add-g c = record { fits = omega (arith, c.in_ok-f.ensures.3, c.in_ok-f.ensures.4) }
-
-pub overflow_cast-h : goal.overflow_cast-h
-overflow_cast-h c = record { fits = omega (arith, c.in_ok-f.ensures.3, c.in_ok-f.ensures.4) }
-
-pub overflow_cast-g : goal.overflow_cast-g
-overflow_cast-g c = record { fits = omega (arith, c.in_ok-f.ensures.3, c.in_ok-f.ensures.4) }
+    rw (p.1, p.2) (stops v.1 c.loop-i-test.true (rw (v.1.read, eh, eg) c.in_err-f.ensures.read))
 
 pub loop-i-preserved : goal.loop-i-preserved
-loop-i-preserved c = virts_more _ _ _ _ _ _ _ _ _ _ _ _ _ c.loop-i.invariant c.loop-i-test.true c.requires c.in_ok-f.ensures c.put_fields.ensures c.put.ensures c.put-in-loop-i.ensures
+loop-i-preserved c =
+    let v = c.loop-i.invariant in
+    let a = c.in_ok-f.ensures in
+    let b = c.put_fields.ensures in (
+      virts_more _ _ _ _ _ _ _ _ _ _ _ _ _ v.0 c.loop-i-test.true c.requires a.read b.stored c.put.ensures c.put-in-loop-i.ensures,
+      record { j64 = b.same.j64 ∙ a.same.j64 ∙ v.1.j64; j32 = b.same.j32 ∙ a.same.j32 ∙ v.1.j32; j16 = b.same.j16 ∙ a.same.j16 ∙ v.1.j16; j8 = b.same.j8 ∙ a.same.j8 ∙ v.1.j8; jf = b.same.jf ∙ a.same.jf ∙ v.1.jf },
+      b.maps ∙ a.maps ∙ v.2,
+    )
 
-pub returns : goal.returns
-returns c = (c.loop-i.invariant.0, ends c.loop-i.invariant.1 c.loop-i-test.false, c.loop-i.invariant.2, c.loop-i.invariant.3, c.loop-i.invariant.4, c.loop-i.invariant.5, c.loop-i.invariant.6)
+pub returns-clause-read : goal.returns-clause-read
+returns-clause-read c =
+    let v = c.loop-i.invariant.0 in
+    (v.0, ends v.1 c.loop-i-test.false, v.2, v.3, v.4, v.5, v.6)

@@ -3,13 +3,14 @@ use Rattle.matrix.proofs.Starts.{refused, started}
 use Rattle.matrix.proofs.check.check_interference.Goals as goal
 
 pub returns-in_err-start_refusal : goal.returns-in_err-start_refusal
-returns-in_err-start_refusal c =
+returns-in_err-start_refusal g c =
     let a = c.args in
-    let q = refused a.froms.now a.tos.now a.values.now a.ends.now a.regs.now _ a.count a.reg a.full _ c.short_buffers-short.ensures _ c.in_err-start_refusal.ensures in
+    let S = g.S.SegmentList in
+    let q = refused (S.froms a.segments) (S.tos a.segments) (S.values a.segments) a.matrix.table.ends.now a.regs.now _ a.count a.reg a.full _ c.short_buffers-short.ensures _ c.in_err-start_refusal.ensures in
     search rules
 
 pub returns : goal.returns
-returns c =
+returns g c =
     let a = c.args in
-    let q = started a.froms.now a.tos.now a.values.now a.ends.now a.regs.now _ a.count a.reg a.full _ c.short_buffers-short.ensures _ _ c.in_ok-start_refusal.ensures c.at.ensures c.enter.ensures in
-    q
+    let S = g.S.SegmentList in
+    started (S.froms a.segments) (S.tos a.segments) (S.values a.segments) a.matrix.table.ends.now a.regs.now _ a.count a.reg a.full _ c.short_buffers-short.ensures _ _ c.in_ok-start_refusal.ensures c.at.ensures c.enter.ensures

@@ -1,11 +1,12 @@
 use Prim.Native.Nat.{◌≤◌}
 use mathlib.Core.Path.{◌≡◌}
-use Rattle.entries.specs.Moves.{words}
+use Rattle.table_words.specs.Buffers.{SameTable}
+use Rattle.entries.specs.Moves.{words_of}
 use Rattle.entries.specs.Placing.{assigning}
 use Rattle.placing.proofs.assign.assign_units.Given as goal
 
 abbrev pub invariant-loop-left : goal.invariant-loop-left
-invariant-loop-left l = (l.left ≤ l.map) × (assigning l.uses l.v l.left l.froms l.tos (words l.ends l.rests) ≡ assigning l.uses l.v l.map l.froms l.tos (words l.initial.ends l.initial.rests))
+invariant-loop-left g l = (l.left ≤ l.map) × SameTable l.initial.table l.table × (assigning l.uses l.v l.left (g.S.SegmentList.froms l.segments) (g.S.SegmentList.tos l.segments) (words_of l.table) ≡ assigning l.uses l.v l.map (g.S.SegmentList.froms l.segments) (g.S.SegmentList.tos l.segments) (words_of l.initial.table))
 
 abbrev pub decreases-loop-left : goal.decreases-loop-left
-decreases-loop-left l = l.left
+decreases-loop-left g l = l.left

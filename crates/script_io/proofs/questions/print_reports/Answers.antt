@@ -23,4 +23,4 @@ fewer W c d x n past within =
     ]
 
 pub loop-report-smaller : goal.loop-report-smaller
-loop-report-smaller c = fewer _ _ _ _ c.args.n c.in-Some.ensures.0 c.in-Some.ensures.1
+loop-report-smaller c = fewer _ _ _ _ (length c.args.list.now) c.in-Some.ensures.0 c.in-Some.ensures.1

@@ -4,4 +4,4 @@ use mathlib.Core.Path.{◌≡◌}
 use Rattle.script_io.proofs.questions.read_segments.Given as goal
 
 abbrev pub invariant-loop-segment : goal.invariant-loop-segment
-invariant-loop-segment l = l.left + 10 * l.segment-index ≡ l.initial.left
+invariant-loop-segment l = l.input.left + 10 * l.segment-index ≡ l.initial.input.left

@@ -1,13 +1,11 @@
 use native.Mathlib.Omega.{arith}
 use mathlib.Core.Path.{refl, sym, ◌∙◌}
 use lib.Seq.{length-take-le}
-use Rattle.job.specs.Layout.{slices}
-use Rattle.run_loop.specs.Running.{lent_state}
 use Rattle.sheets.proofs.BeginLaws.{run_stored}
 use Rattle.sheets.proofs.sheet.run_loaded.Goals as goal
 
 pub slice_bounds-all-end-2 : goal.slice_bounds-all-end-2
 slice_bounds-all-end-2 c = sym (length-take-le _ c.store.new.words (omega (arith, c.min-n.ensures)))
 
-pub returns : goal.returns
-returns c = run_stored c.args.header (slices c.args.j64.now c.args.j32.now c.args.j16.now c.args.j8.now c.args.jf.now) (lent_state c.args.ends.now c.args.rests.now c.args.queue.now c.args.last.now) c.args.words.now _ _ _ _ _ _ _ _ c.first_records.ensures c.store.ensures.words_after c.store.ensures.read_back (λ l. omega (arith, c.min-n.ensures, c.store.auto.words, l)) c.run_on-end.ensures (c.run_on-end.auto.words ∙ length-take-le _ c.store.new.words (omega (arith, c.min-n.ensures))) refl c.start.ensures
+pub returns-clause-stored : goal.returns-clause-stored
+returns-clause-stored c = run_stored _ _ _ _ _ _ _ _ _ _ _ _ c.first_records.ensures c.store.ensures.words_after c.store.ensures.read_back (λ l. omega (arith, c.min-n.ensures, c.store.auto.words, l)) c.run_on-end.ensures.after (c.run_on-end.auto.words ∙ length-take-le _ c.store.new.words (omega (arith, c.min-n.ensures))) refl c.start.ensures

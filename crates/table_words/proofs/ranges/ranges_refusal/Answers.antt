@@ -1,18 +1,28 @@
 use borrow.Author.Rules.{rules}
-use mathlib.Core.Path.{refl, sym, ◌∙◌}
+use mathlib.Core.Path.{sym, ap, ◌∙◌}
+use Rattle.reg_matrix.specs.declared.ValueSegment.{ValueSegment}
 use Rattle.table_words.proofs.RangeLaws.{ranges_start, ranges_stop, ranges_go, ranges_end}
 use Rattle.table_words.proofs.ranges.ranges_refusal.Goals as goal
 
 pub loop-i-init : goal.loop-i-init
-loop-i-init c = ranges_start _ _ _ 0
+loop-i-init g c = ranges_start _ _ _ 0
 
 pub returns-in_err-range_refusal : goal.returns-in_err-range_refusal
-returns-in_err-range_refusal c =
-    let q = ranges_stop _ _ _ _ _ _ _ c.loop-i-test.true refl c.at-to.ensures _ c.in_err-range_refusal.ensures ∙ sym c.loop-i.invariant in
+returns-in_err-range_refusal g c =
+    let from = ap (λ (s : ValueSegment). s.from) c.segment-s.ensures in
+    let to = ap (λ (s : ValueSegment). s.to) c.segment-s.ensures in
+    let inside = rw c.count-i-end.ensures at c.loop-i-test.true in
+    let q = ranges_stop _ _ _ _ _ _ _ inside from to _ c.in_err-range_refusal.ensures ∙ sym c.loop-i.invariant in
     search rules
 
 pub loop-i-preserved : goal.loop-i-preserved
-loop-i-preserved c = c.loop-i.invariant ∙ ranges_go _ _ _ _ _ _ _ c.loop-i-test.true refl c.at-to.ensures c.in_ok-range_refusal.ensures
+loop-i-preserved g c =
+    let from = ap (λ (s : ValueSegment). s.from) c.segment-s.ensures in
+    let to = ap (λ (s : ValueSegment). s.to) c.segment-s.ensures in
+    let inside = rw c.count-i-end.ensures at c.loop-i-test.true in
+    c.loop-i.invariant ∙ ranges_go _ _ _ _ _ _ _ inside from to c.in_ok-range_refusal.ensures
 
 pub returns : goal.returns
-returns c = sym (c.loop-i.invariant ∙ ranges_end _ _ _ _ _ c.loop-i-test.false)
+returns g c =
+    let outside = rw c.count-i-end.ensures at c.loop-i-test.false in
+    sym (c.loop-i.invariant ∙ ranges_end _ _ _ _ _ outside)

@@ -7,4 +7,5 @@ use Rattle.table_words.specs.Segments.{segments_from, segments_in}
 use Rattle.table_words.proofs.ranges.ranges_refusal.Given as goal
 
 abbrev pub invariant-loop-i : goal.invariant-loop-i
-invariant-loop-i l = ranges_refusal 0 (segments_in l.froms l.tos []) ≡ ranges_refusal l.past (segments_from l.froms l.tos [] l.i (length l.froms - l.i))
+invariant-loop-i g l =
+    ranges_refusal 0 (segments_in (g.S.SegmentList.froms l.segments) (g.S.SegmentList.tos l.segments) []) ≡ ranges_refusal l.past (segments_from (g.S.SegmentList.froms l.segments) (g.S.SegmentList.tos l.segments) [] l.i (length (g.S.SegmentList.froms l.segments) - l.i))

@@ -1,0 +1,40 @@
+// What is lent of a job (job/specs/Layout): a slice for each kind of number, which go from call to call together. A list of the job is a part of one of
+// them.
+
+// A job to read.
+#[derive(Clone, Copy)]
+pub struct LentJob<'a> {
+    pub j64: &'a [u64],
+    pub j32: &'a [u32],
+    pub j16: &'a [u16],
+    pub j8: &'a [u8],
+    pub jf: &'a [f32],
+}
+
+// A job to store.
+#[derive(Drop)]
+pub struct LentJobMut<'a> {
+    pub j64: &'a mut [u64],
+    pub j32: &'a mut [u32],
+    pub j16: &'a mut [u16],
+    pub j8: &'a mut [u8],
+    pub jf: &'a mut [f32],
+}
+
+impl LentJobMut<'_> {
+    ghost use Rattle.std.specs.Prelude.{◌≡◌};
+    ghost use Rattle.job_parts.specs.Lent.{slices_of, slices_in};
+
+    // The job to read.
+    pub fn as_job(&self) -> LentJob<'_>
+        ensures { slices_of result ≡ slices_in self.now }
+    {
+        LentJob {
+            j64: self.j64,
+            j32: self.j32,
+            j16: self.j16,
+            j8: self.j8,
+            jf: self.jf,
+        }
+    }
+}
