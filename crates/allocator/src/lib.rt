@@ -38,10 +38,10 @@ pub enum Stage {
     Split,
 }
 
-// 01, "What the stage answers": how a run ended.
+// 01, "What the stage answers": how a run ended, by the numbers of its words.
 #[derive(Clone, Copy, PartialEq, Eq, Debug)]
 pub enum Ending {
-    Done,
-    Spent,
-    TooMany,
+    Done = 1,
+    Spent = 2,
+    TooMany = 3,
 }

@@ -19,6 +19,8 @@ use Rattle.narrow.specs.Cut.{cut}
 use Rattle.run_loop.specs.Running.{ending_number}
 use Rattle.calls.specs.Calling.{refusal_number, value_number, sizes_of, StateStands, Called}
 use Rattle.calls.specs.Trace.{Trace}
+use Rattle.call_lists.specs.declared.lists.CallAnswer.{CallAnswer}
+use Rattle.call_lists.specs.declared.lists.CallAnswer.TheVariants.{Placed, Evicted, Ran}
 use Rattle.call_lists.specs.declared.lists.ListedCall.{ListedCall}
 use Rattle.call_lists.specs.declared.lists.ListedCall.TheVariants.{Place, Evict, Run}
 
@@ -76,20 +78,21 @@ numbers_of a = refusal_number a ∷ word_number a ∷ value_number a ∷ []
 
 -- ---- the code's answer of one call
 
-module _ {A : Type 0} where
-  -- the records afterwards: a refusal leaves them as they were
-  abbrev pub records_left : A → Result (A × ℕ × ℕ) Refusal → A
-  records_left a (Ok (b, e, x)) = b
-  records_left a (Err r) = a
+-- the number of a run's word or 0, and the register given or taken away, or the dequeues
+abbrev pub answer_numbers : CallAnswer → ℕ × ℕ
+answer_numbers (Placed r) = (0, r)
+answer_numbers (Evicted r) = (0, r)
+answer_numbers (Ran end) = (ending_number end.ending, end.dequeues)
 
+module _ {A : Type 0} where
   -- the word's number or 0
-  abbrev pub word_in : Result (A × ℕ × ℕ) Refusal → ℕ
-  word_in (Ok (a, e, x)) = e
+  abbrev pub word_in : Result (A × CallAnswer) Refusal → ℕ
+  word_in (Ok (a, x)) = (answer_numbers x).0
   word_in (Err r) = 0
 
   -- the register given or taken away, or the dequeues, or 0
-  abbrev pub value_in : Result (A × ℕ × ℕ) Refusal → ℕ
-  value_in (Ok (a, e, x)) = x
+  abbrev pub value_in : Result (A × CallAnswer) Refusal → ℕ
+  value_in (Ok (a, x)) = (answer_numbers x).1
   value_in (Err r) = 0
 
 -- ---- what is done

@@ -7,17 +7,16 @@ ghost use Rattle.job_parts.specs.Lent.{slices_of};
 ghost use Rattle.run_loop.specs.Running.{lent_state, state_in};
 ghost use Rattle.reg_matrix.specs.Refused.{number_in};
 ghost use Rattle.calls.specs.Calling.{afterwards, first_in, second_in, sizes_of};
-ghost use Rattle.call_lists.specs.Listed.{call_in, listed_by, listed, records_left, word_in, value_in, CallAnswered, CallStored, ListDone, ListCarriedOut};
+ghost use Rattle.call_lists.specs.Listed.{call_in, listed_by, listed, answer_numbers, word_in, value_in, CallAnswered, CallStored, ListDone, ListCarriedOut};
 
 use allocator::Assignment;
 use calls::direct::{assign, evict};
 use calls::runs::run;
-use job::JobHeader;
-use job_parts::lent_job::LentJob;
+use job_parts::lent_job::LoadedJob;
 use lent::{at, put};
 use narrow::Narrow;
 use reg_matrix::Refusal;
-use run_loop::ending_number;
+use run_loop::{RunEnd, ending_number};
 use table_words::buffers::LentState;
 
 // Stores the three numbers that a call answered, from place `to` on.
@@ -36,6 +35,27 @@ pub enum ListedCall {
     Place(u16, u8, u32),
     Evict(u16),
     Run(u64),
+}
+
+// What a call answers that is carried out: the register given or taken away, or how a run ended.
+#[derive(Clone, Copy)]
+pub enum CallAnswer {
+    Placed(u8),
+    Evicted(u8),
+    Ran(RunEnd),
+}
+
+impl CallAnswer {
+    // Its two numbers: that of a run's word or 0, and the register given or taken away, or the dequeues.
+    pub fn numbers(self) -> (u64, u64)
+        ensures { result ≡ answer_numbers self }
+    {
+        match self {
+            CallAnswer::Placed(reg) => (0, reg as u64),
+            CallAnswer::Evicted(reg) => (0, reg as u64),
+            CallAnswer::Ran(end) => (ending_number(end.ending), end.dequeues),
+        }
+    }
 }
 
 // The call of these four words, if the first is a kind.
@@ -67,30 +87,29 @@ fn call_at(list: &[u64], from: usize) -> Option<ListedCall>
 }
 
 impl ListedCall {
-    // Makes the call: the records afterwards, the number of a run's word or 0, and the register given or taken away, or the dequeues.
-    fn make(
+    // Makes the call: the records afterwards, and its answer. Refused, nothing is changed.
+    pub fn make(
         self,
         all: [Assignment; 512],
-        header: JobHeader,
-        job: LentJob<'_>,
+        loaded: LoadedJob<'_>,
         state: &mut LentState<'_>,
         last: &mut [u8],
-    ) -> Result<([Assignment; 512], u64, u64), Refusal>
+    ) -> Result<([Assignment; 512], CallAnswer), Refusal>
         ensures same { SameState state.old state.new }
-        ensures answered { CallAnswered header (slices_of job.entry) (call_in (sizes_of (slices_of job.entry) (state_in state.old last.old)) self) (state_in state.old last.old) all (state_in state.new last.new) (records_left all result) (number_in result) (word_in result) (value_in result) }
+        ensures answered { CallAnswered loaded.entry.header (slices_of loaded.entry.job) (call_in (sizes_of (slices_of loaded.entry.job) (state_in state.old last.old)) self) (state_in state.old last.old) all (state_in state.new last.new) (afterwards all (first_in result)) (number_in result) (word_in result) (value_in result) }
     {
         match self {
             ListedCall::Place(v, reg, weight) => {
-                let after = assign(all, header, v, reg, weight, job, state, last)?;
-                Ok((after, 0, reg as u64))
+                let after = assign(all, v, reg, weight, loaded, state, last)?;
+                Ok((after, CallAnswer::Placed(reg)))
             }
             ListedCall::Evict(v) => {
-                let (after, reg) = evict(all, header, v, job, state, last)?;
-                Ok((after, 0, reg as u64))
+                let (after, reg) = evict(all, v, loaded, state, last)?;
+                Ok((after, CallAnswer::Evicted(reg)))
             }
             ListedCall::Run(budget) => {
-                let (after, end) = run(all, budget, job, state, last)?;
-                Ok((after, ending_number(end.ending), end.dequeues))
+                let (after, end) = run(all, budget, loaded.job, state, last)?;
+                Ok((after, CallAnswer::Ran(end)))
             }
         }
     }
@@ -99,8 +118,7 @@ impl ListedCall {
     fn carry_out(
         self,
         all: [Assignment; 512],
-        header: JobHeader,
-        job: LentJob<'_>,
+        loaded: LoadedJob<'_>,
         state: &mut LentState<'_>,
         last: &mut [u8],
         out: &mut [u64],
@@ -108,11 +126,12 @@ impl ListedCall {
     ) -> [Assignment; 512]
         requires { to + 2 < 0x1_0000_0000_0000_0000 }
         ensures same { SameState state.old state.new }
-        ensures stored { CallStored header (slices_of job.entry) (call_in (sizes_of (slices_of job.entry) (state_in state.old last.old)) self) (state_in state.old last.old) all (state_in state.new last.new) result out.old to out.new }
+        ensures stored { CallStored loaded.entry.header (slices_of loaded.entry.job) (call_in (sizes_of (slices_of loaded.entry.job) (state_in state.old last.old)) self) (state_in state.old last.old) all (state_in state.new last.new) result out.old to out.new }
     {
-        match self.make(all, header, job, state, last) {
+        match self.make(all, loaded, state, last) {
             Ok(done) => {
-                store_numbers(out, to, 0, done.1, done.2);
+                let (word, value) = done.1.numbers();
+                store_numbers(out, to, 0, word, value);
                 // tried, and not covered by the check: the array given back straight from the pattern
                 let after = done.0;
                 after
@@ -128,16 +147,15 @@ impl ListedCall {
 // Carries out the calls of the list one after another: the records afterwards, and how many calls there were.
 fn carry_out_calls(
     records: [Assignment; 512],
-    header: JobHeader,
     list: &[u64],
-    job: LentJob<'_>,
+    loaded: LoadedJob<'_>,
     ends: &mut [u64],
     rests: &mut [u64],
     queue: &mut [u64],
     last: &mut [u8],
     out: &mut [u64],
 ) -> ([Assignment; 512], u64)
-    ensures { ListDone header (slices_of job.entry) list.now (lent_state ends.old rests.old queue.old last.old) records out.old (lent_state ends.new rests.new queue.new last.new) result.0 out.new result.1 }
+    ensures { ListDone loaded.entry.header (slices_of loaded.entry.job) list.now (lent_state ends.old rests.old queue.old last.old) records out.old (lent_state ends.new rests.new queue.new last.new) result.0 out.new result.1 }
 {
     let mut all = records;
     let mut from: usize = 0;
@@ -148,7 +166,7 @@ fn carry_out_calls(
         // tried, and the proof did not close: the state as a struct over the loop, since the slices' lengths are not known behind it
         let mut state = LentState { ends, rests, queue };
         // tried, and not covered by the check: the call's array given straight to `all`
-        let after = call.carry_out(all, header, job, &mut state, last, out, to);
+        let after = call.carry_out(all, loaded, &mut state, last, out, to);
         all = after;
         from += 4;
         to += 3;
@@ -166,24 +184,22 @@ fn carry_out_calls(
 // nothing is changed.
 pub fn carry_out_list(
     records: [Assignment; 512],
-    header: JobHeader,
     list: &[u64],
-    job: LentJob<'_>,
+    loaded: LoadedJob<'_>,
     state: &mut LentState<'_>,
     last: &mut [u8],
     answers: &mut [u64],
 ) -> Result<([Assignment; 512], u64), Refusal>
     ensures same { SameState state.old state.new }
-    ensures carried { ListCarriedOut header (slices_of job.entry) list.now (state_in state.old last.old) records answers.old (state_in state.new last.new) (afterwards records (first_in result)) answers.new (number_in result) (second_in result) }
+    ensures carried { ListCarriedOut loaded.entry.header (slices_of loaded.entry.job) list.now (state_in state.old last.old) records answers.old (state_in state.new last.new) (afterwards records (first_in result)) answers.new (number_in result) (second_in result) }
 {
     if answers.len() / 3 < list.len() / 4 {
         return Err(Refusal::ShortBuffer);
     }
     Ok(carry_out_calls(
         records,
-        header,
         list,
-        job,
+        loaded,
         state.ends,
         state.rests,
         state.queue,

@@ -10,8 +10,8 @@ ghost use Rattle.job_parts.specs.Lent.{slices_of};
 ghost use Rattle.call_tests.specs.Testing.{is_free, hinted_at, named_to, unknown_in, clear_to, place_tests, evict_tests};
 
 use allocator::Assignment;
-use job::{HINT_REGS, HINT_STARTS, JobHeader, SETS, USES};
-use job_parts::lent_job::LentJob;
+use job::{HINT_REGS, HINT_STARTS, SETS, USES};
+use job_parts::lent_job::{LentJob, LoadedJob};
 use job_parts::{class_of, part_of, segments_of};
 use lent::{at, from};
 use records::assignment::is_assigned;
@@ -77,10 +77,11 @@ fn is_named(n: u16, v: u16, reg: u8, job: LentJob<'_>) -> bool
 }
 
 // Test 8 of a placement: no such number, no such register, or one that v may not have.
-pub fn is_unknown(header: JobHeader, v: u16, reg: u8, job: LentJob<'_>) -> bool
-    ensures { result ≡ unknown_in header.virt_regs header.regs v reg (named_to (slices_of job.entry) header.virt_regs v reg) }
+pub fn is_unknown(v: u16, reg: u8, loaded: LoadedJob<'_>) -> bool
+    ensures { result ≡ unknown_in loaded.entry.header.virt_regs loaded.entry.header.regs v reg (named_to (slices_of loaded.entry.job) loaded.entry.header.virt_regs v reg) }
 {
-    header.virt_regs <= v || header.regs <= reg || !is_named(header.virt_regs, v, reg, job)
+    let header = loaded.header;
+    header.virt_regs <= v || header.regs <= reg || !is_named(header.virt_regs, v, reg, loaded.job)
 }
 
 // Whether the check of v's segments on the register's units reports nothing.
@@ -105,19 +106,18 @@ fn is_free(a: Assignment) -> bool
 pub fn place_refusal(
     short: bool,
     a: Assignment,
-    header: JobHeader,
     v: u16,
     reg: u8,
     weight: u32,
-    job: LentJob<'_>,
+    loaded: LoadedJob<'_>,
     table: Table<'_>,
 ) -> Result<(), Refusal>
-    ensures { refusal_in result ≡ refusal (place_tests short (unknown_in header.virt_regs header.regs v reg (named_to (slices_of job.entry) header.virt_regs v reg)) weight a (clear_to (slices_of job.entry) table.entry.ends.now table.entry.rests.now v reg)) }
+    ensures { refusal_in result ≡ refusal (place_tests short (unknown_in loaded.entry.header.virt_regs loaded.entry.header.regs v reg (named_to (slices_of loaded.entry.job) loaded.entry.header.virt_regs v reg)) weight a (clear_to (slices_of loaded.entry.job) table.entry.ends.now table.entry.rests.now v reg)) }
 {
     if short {
         return Err(Refusal::ShortBuffer);
     }
-    if is_unknown(header, v, reg, job) {
+    if is_unknown(v, reg, loaded) {
         return Err(Refusal::UnknownNumber);
     }
     if 0x7F80_0000 <= weight {
@@ -126,7 +126,7 @@ pub fn place_refusal(
     if !is_free(a) {
         return Err(Refusal::WrongStanding);
     }
-    if !is_clear_at(v, reg, job, table) {
+    if !is_clear_at(v, reg, loaded.job, table) {
         return Err(Refusal::Interference);
     }
     Ok(())

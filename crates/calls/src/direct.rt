@@ -10,8 +10,7 @@ ghost use Rattle.calls.specs.Calling.{afterwards, first_in, second_in, place_ans
 
 use allocator::Assignment;
 use call_tests::{evict_refusal, place_refusal, short_buffers};
-use job::JobHeader;
-use job_parts::lent_job::LentJob;
+use job_parts::lent_job::LoadedJob;
 use lent::put;
 use moves::{take, take_back};
 use records::assignment::reg_of;
@@ -48,22 +47,20 @@ impl Placement {
     fn refusal(
         self,
         a: Assignment,
-        header: JobHeader,
-        job: LentJob<'_>,
+        loaded: LoadedJob<'_>,
         state: &LentState<'_>,
         last: &[u8],
     ) -> Result<(), Refusal>
-        ensures { number_in result ≡ place_answer header (slices_of job.entry) self.v self.reg self.weight (state_in state.now last.now) a }
+        ensures { number_in result ≡ place_answer loaded.entry.header (slices_of loaded.entry.job) self.v self.reg self.weight (state_in state.now last.now) a }
     {
-        let short = short_buffers(job, state, last);
+        let short = short_buffers(loaded.job, state, last);
         place_refusal(
             short,
             a,
-            header,
             self.v,
             self.reg,
             self.weight,
-            job,
+            loaded,
             state.as_table(),
         )
     }
@@ -75,16 +72,15 @@ impl Placement {
     pub fn place(
         self,
         a: Assignment,
-        header: JobHeader,
-        job: LentJob<'_>,
+        loaded: LoadedJob<'_>,
         state: &mut LentState<'_>,
         last: &mut [u8],
     ) -> Result<Assignment, Refusal>
         ensures same { SameState state.old state.new }
-        ensures called { (rs : List Assignment) → a ≡ get_or rs self.v Dead → Placed header (slices_of job.entry) self.v self.reg self.weight (state_in state.old last.old) rs (state_in state.new last.new) (set rs self.v (afterwards a result)) (number_in result) }
+        ensures called { (rs : List Assignment) → a ≡ get_or rs self.v Dead → Placed loaded.entry.header (slices_of loaded.entry.job) self.v self.reg self.weight (state_in state.old last.old) rs (state_in state.new last.new) (set rs self.v (afterwards a result)) (number_in result) }
     {
-        self.refusal(a, header, job, state, last)?;
-        take(self.v, self.reg, job, state, last);
+        self.refusal(a, loaded, state, last)?;
+        take(self.v, self.reg, loaded.job, state, last);
         Ok(placed(a, self.reg, self.weight))
     }
 }
@@ -102,18 +98,17 @@ impl Eviction {
     pub fn evict(
         self,
         a: Assignment,
-        header: JobHeader,
-        job: LentJob<'_>,
+        loaded: LoadedJob<'_>,
         state: &mut LentState<'_>,
         last: &[u8],
     ) -> Result<(Assignment, u8), Refusal>
         ensures same { SameState state.old state.new }
-        ensures called { (rs : List Assignment) → a ≡ get_or rs self.v Dead → Evicted header (slices_of job.entry) self.v (state_in state.old last.now) rs (state_in state.new last.now) (set rs self.v (afterwards a (first_in result))) (number_in result) (second_in result) }
+        ensures called { (rs : List Assignment) → a ≡ get_or rs self.v Dead → Evicted loaded.entry.header (slices_of loaded.entry.job) self.v (state_in state.old last.now) rs (state_in state.new last.now) (set rs self.v (afterwards a (first_in result))) (number_in result) (second_in result) }
     {
-        let short = short_buffers(job, state, last);
-        evict_refusal(short, a, header.virt_regs, self.v)?;
+        let short = short_buffers(loaded.job, state, last);
+        evict_refusal(short, a, loaded.header.virt_regs, self.v)?;
         let reg = reg_of(a);
-        take_back(self.v, reg, job, state);
+        take_back(self.v, reg, loaded.job, state);
         Ok((waiting(a), reg))
     }
 }
@@ -124,20 +119,19 @@ impl Eviction {
 // unassigned, 14 where the check reports anything.
 pub fn assign(
     records: [Assignment; 512],
-    header: JobHeader,
     v: u16,
     reg: u8,
     weight: u32,
-    job: LentJob<'_>,
+    loaded: LoadedJob<'_>,
     state: &mut LentState<'_>,
     last: &mut [u8],
 ) -> Result<[Assignment; 512], Refusal>
     ensures same { SameState state.old state.new }
-    ensures called { Placed header (slices_of job.entry) v reg weight (state_in state.old last.old) records (state_in state.new last.new) (afterwards records result) (number_in result) }
+    ensures called { Placed loaded.entry.header (slices_of loaded.entry.job) v reg weight (state_in state.old last.old) records (state_in state.new last.new) (afterwards records result) (number_in result) }
 {
     let a = record_at(records, v);
     let asked = Placement { v, reg, weight };
-    let after = asked.place(a, header, job, state, last)?;
+    let after = asked.place(a, loaded, state, last)?;
     Ok(with_record(records, v, after))
 }
 
@@ -145,17 +139,16 @@ pub fn assign(
 // register that v held. Refused, nothing is changed: 15 where a buffer is short, 8 where there is no such number, 13 where v holds no register.
 pub fn evict(
     records: [Assignment; 512],
-    header: JobHeader,
     v: u16,
-    job: LentJob<'_>,
+    loaded: LoadedJob<'_>,
     state: &mut LentState<'_>,
     last: &[u8],
 ) -> Result<([Assignment; 512], u8), Refusal>
     ensures same { SameState state.old state.new }
-    ensures called { Evicted header (slices_of job.entry) v (state_in state.old last.now) records (state_in state.new last.now) (afterwards records (first_in result)) (number_in result) (second_in result) }
+    ensures called { Evicted loaded.entry.header (slices_of loaded.entry.job) v (state_in state.old last.now) records (state_in state.new last.now) (afterwards records (first_in result)) (number_in result) (second_in result) }
 {
     let a = record_at(records, v);
     let asked = Eviction { v };
-    let (after, reg) = asked.evict(a, header, job, state, last)?;
+    let (after, reg) = asked.evict(a, loaded, state, last)?;
     Ok((with_record(records, v, after), reg))
 }

@@ -19,7 +19,6 @@ use Rattle.allocator.specs.Reached.{Reached}
 use Rattle.allocator.proofs.Weights.{plain_zero}
 use Rattle.allocator.proofs.Good.{good_reached, holder_good, reached_evict}
 use Rattle.allocator.proofs.Records.{assigned_held, not_assigned, holder_stays, lose_records}
-use Rattle.records.specs.Fields.{flag_in, is_held, reg_in, record_weight}
 use Rattle.record_words.specs.Words.{record_word, record_in, PlainRecord, WordsOf}
 use Rattle.record_words.proofs.WordLaws.{word_read, word_set as record-set}
 use Rattle.record_words.proofs.PlainRecords.{records_length}
@@ -29,12 +28,6 @@ use Rattle.decisions.specs.Deciding.{members}
 use Rattle.moves.specs.Standing.{Moves}
 use Rattle.moves.specs.Moving.{EvictReads, TakenBack}
 use Rattle.context.specs.Carrying.{EvictedAll}
-
--- a record that holds a register, by its parts
-held_as : (a : Assignment) (f : Bool) (r : ℕ) → is_held a ≡ true → f ≡ flag_in a → r ≡ reg_in a → a ≡ Holds f r (record_weight a)
-held_as (Holds g q w) f r y p e = ap (λ (b : Bool). Holds b q w) (sym p) ∙ ap (λ (n : ℕ). Holds f n w) (sym e)
-held_as (Unassigned g) f r y p e = absurd (subst (λ (x : Bool). T (not x)) y tt)
-held_as Dead f r y p e = absurd (subst (λ (x : Bool). T (not x)) y tt)
 
 -- those below i are done: the state then is x, and evicting the others from i on gives what evicting all gives
 pub record Onward (j : Job) (s : State) (t : StateBuffers) (i : ℕ) (gone : List Bool) (S' : LentState) (W' : List ℕ) : Type 0 where
@@ -88,13 +81,13 @@ module _ (gone : List Bool) (B : JobBuffers) (S : LentState) (W : List ℕ) wher
       own x is = sym (record_read x Dead i l) ∙ sym (word_read is i l) ∙ sym has
 
       -- i holds nothing
-      pub evict_idle : is_held a ≡ false → To (i + 1) S' W'
+      pub evict_idle : ((f : Bool) (r : ℕ) (w : Float) → a ≡ Holds f r w → ⊥) → To (i + 1) S' W'
       evict_idle n =
           record {
             onward =
                 λ j s t reach e mv is.
                 let o = so_far.onward j s t reach e mv is in
-                let none-held = not_assigned j o.x (good_reached j o.x o.reached) i (λ f r w q. not_held (sym (own o.x o.records_are) ∙ q)) in
+                let none-held = not_assigned j o.x (good_reached j o.x o.reached) i (λ f r w q. n f r w (sym (own o.x o.records_are) ∙ q)) in
                 record {
                   x = o.x;
                   reached = o.reached;
@@ -105,30 +98,24 @@ module _ (gone : List Bool) (B : JobBuffers) (S : LentState) (W : List ℕ) wher
                       ∙ marked_yes j gone i o.x l m ∙ o.whole;
                 };
           }
-        where
-          not_held : {f : Bool} {r : ℕ} {w : Float} → a ≡ Holds f r w → ⊥
-          not_held q = subst (λ (x : Bool). T (not x)) (sym n ∙ ap is_held q) tt
 
       -- i loses its register
       pub evict_one :
-          (f : Bool) (reg : ℕ)
-          → is_held a ≡ true
-          → f ≡ flag_in a
-          → reg ≡ reg_in a
+          (f : Bool) (reg : ℕ) (w : Float)
+          → a ≡ Holds f reg w
           → (S'' : LentState)
           → TakenBack i reg B S' S''
           → (W'' : List ℕ) (x : ℕ)
           → (x ≡ record_word (Unassigned f)) × (PlainRecord (Unassigned f) → record_in x ≡ Unassigned f)
           → W'' ≡ set W' i x
           → To (i + 1) S'' W''
-      evict_one f reg y pf pr S'' tb W'' x px st =
+      evict_one f reg w y S'' tb W'' x px st =
           record {
             onward =
                 λ j s t reach e mv is.
                 let o = so_far.onward j s t reach e mv is in
                 let g = good_reached j o.x o.reached in
-                let w = record_weight a in
-                let h = assigned_held j o.x g i f reg w (own o.x o.records_are ∙ held_as a f reg y pf pr) in
+                let h = assigned_held j o.x g i f reg w (own o.x o.records_are ∙ y) in
                 let Gone-one = evict_held j o.x i (candidate reg w) h.0 in
                 let after : set (records o.x) i (Unassigned f) ≡ records (lose j i reg o.x) =
                 ap (λ (b : Bool). set (records o.x) i (Unassigned b)) (sym h.1)

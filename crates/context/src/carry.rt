@@ -11,7 +11,8 @@ use job_parts::lent_job::LentJob;
 use lent::{at, put};
 use moves::{pass_by, take, take_back};
 use record_words::{record_of, word_of};
-use records::assignment::{flag_of, is_assigned, reg_of};
+use records::assignment::flag_of;
+use records::changes::waiting;
 use table_words::buffers::LentState;
 
 // All of a set lose their registers, in ascending order, and their records say so.
@@ -19,15 +20,12 @@ fn evict_all(gone: &[bool; 512], job: LentJob<'_>, state: &mut LentState<'_>, wo
     ensures same { SameState state.old state.new }
     ensures after { EvictedAll gone.now (lists_in (slices_of job.entry)) state.old words.old state.new words.new }
 {
-    for v in 0..512 {
-        if gone[v] {
+    for (v, is_gone) in gone.iter().enumerate() {
+        if *is_gone {
             let a = record_of(at(words, v));
-            if is_assigned(a) {
-                let evicted = Assignment::Unassigned {
-                    evicted_for_preference: flag_of(a),
-                };
-                put(words, v, word_of(evicted));
-                take_back(v as u16, reg_of(a), job, state);
+            if let Assignment::Assigned { reg, .. } = a {
+                put(words, v, word_of(waiting(a)));
+                take_back(v as u16, reg, job, state);
             }
         }
     }

@@ -7,7 +7,7 @@ ghost use Rattle.evict_costs.specs.Costs.{add_holder, with_holder, may_evict};
 
 use allocator::EvictCost;
 
-// The heavier of two weights. `a.max(b)` is another function: of a number and what is no number it gives the number.
+// The heavier of two weights. `a.max(b)` is another function: it gives the other where one is no number, and of 0 and -0 either.
 fn heavier(a: f32, b: f32) -> f32
     ensures { result ≡ max_weight a b }
 {
@@ -41,7 +41,8 @@ pub fn is_cheaper(a: EvictCost, b: EvictCost) -> bool
     a < b
 }
 
-// Whether a candidate of this weight may evict holders of this spill weight for a number with this flag and spill weight.
+// Whether a candidate of this weight may evict holders of this spill weight for a number with this flag and spill weight. A struct of these last two
+// would be no plainer: they are two fields of `Dequeued` (decisions), a search puts both into its limit, and only this test reads them.
 pub fn may_evict(weight: f32, flag: bool, spill: f32, own: f32) -> bool
     ensures { result ≡ may_evict weight flag spill own }
 {

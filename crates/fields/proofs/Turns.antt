@@ -24,16 +24,16 @@ use Rattle.fields.proofs.Slices.{more_32, more_16, more_8, more_weights}
 
 -- one, from its fields, its hints and its segments
 pub virt_out :
-    (s : List ℕ) (regs classes n h g at at₁ at₂ next k l : ℕ) (f : VirtRegFields) {hs : List Hint → Type 0} {ss : List ValueSegment → Type 0}
+    (s s₁ s₂ s₃ : List ℕ) (regs classes n h g k l : ℕ) (f : VirtRegFields) {hs : List Hint → Type 0} {ss : List ValueSegment → Type 0}
     → h ≤ 1024
     → g ≤ 512
-    → virt_reg_fields classes n (drop at s) ≡ parsed f (drop at₁ s)
-    → Counted s (if_bit (bit 4 f.map) [] (hints regs h) (drop at₁ s)) length (1024 - h) (Ok (k, at₂)) hs
-    → Counted s (segments g (drop at₂ s)) length (512 - g) (Ok (l, next)) ss
-    → VirtOut s (virt_reg_at regs classes n h g (drop at s)) h g (Ok (f, k, l, next)) hs ss
-virt_out s regs classes n h g at at₁ at₂ next k l f a b e w z = (
+    → virt_reg_fields classes n s ≡ parsed f s₁
+    → Counted s₂ (if_bit (bit 4 f.map) [] (hints regs h) s₁) length (1024 - h) (Ok k) hs
+    → Counted s₃ (segments g s₂) length (512 - g) (Ok l) ss
+    → VirtOut s₃ (virt_reg_at regs classes n h g s) h g (Ok (f, k, l)) hs ss
+virt_out s s₁ s₂ s₃ regs classes n h g k l f a b e w z = (
   joined f w.0 z.0,
-  virt_is regs classes n h g (drop at s) e w.1 z.1,
+  virt_is regs classes n h g s e w.1 z.1,
   record { class = refl; value_set = refl; spill_weight = refl; size = refl; hints = w.2; segments = z.2 },
   omega (arith, w.3),
   omega (arith, z.3),
@@ -56,14 +56,14 @@ module _ {B : Type 0} (f : VirtReg → List B) where
 
 -- i of them are read and stored, with h hints and g segments
 abbrev pub SoFar :
-    List ℕ → (count start regs classes : ℕ) → (w h b : List ℕ) → List Float → (w' h' b' : List ℕ) → List Float → (at hn gn i : ℕ) → Type 0
-SoFar s count start regs classes w h b f w' h' b' f' at hn gn i =
-    (before : List VirtReg) × Reading s (virt_reg_after regs classes) count start i at before × (length (hints_of_all before) ≡ hn) × (length (segments_of_all before) ≡ gn) × (hn ≤ 1024) × (gn ≤ 512)
+    (s s' : List ℕ) → (count regs classes : ℕ) → (w h b : List ℕ) → List Float → (w' h' b' : List ℕ) → List Float → (hn gn i : ℕ) → Type 0
+SoFar s s' count regs classes w h b f w' h' b' f' hn gn i =
+    (before : List VirtReg) × Reading (virt_reg_after regs classes) count i s s' before × (length (hints_of_all before) ≡ hn) × (length (segments_of_all before) ≡ gn) × (hn ≤ 1024) × (gn ≤ 512)
     × VirtsAt w h b f w' h' b' f' before
 
-pub virts_begun : (s : List ℕ) (count start regs classes : ℕ) (w h b : List ℕ) (f : List Float) → SoFar s count start regs classes w h b f w h b f start 0 0 0
+pub virts_begun : (s : List ℕ) (count regs classes : ℕ) (w h b : List ℕ) (f : List Float) → SoFar s s count regs classes w h b f w h b f 0 0 0
 unfolding concat_map starts_from in32 in16 in8 in_weights
-virts_begun s count start regs classes w h b f = ([], begin, refl, refl, omega arith, omega arith, record { j32 = refl; j16 = refl; j8 = refl; jf = refl })
+virts_begun s count regs classes w h b f = ([], begin, refl, refl, omega arith, omega arith, record { j32 = refl; j16 = refl; j8 = refl; jf = refl })
 
 -- a field of one more
 module _ {B C : Type 0} (f : VirtReg → List B) (p : B → C) where
@@ -75,18 +75,18 @@ module _ {C : Type 0} (p : VirtReg → C) where
   one_more vs x e = rw (map-append p vs (x ∷ []), e)
 
 pub virts_more :
-    (s : List ℕ) (count start regs classes at hn gn i k l next : ℕ) (fs : VirtRegFields)
+    (s s₁ s₂ : List ℕ) (count regs classes hn gn i k l : ℕ) (fs : VirtRegFields)
     {w h b w' h' b' w₁ h₁ b₁ w₂ h₂ b₂ h₃ h₄ : List ℕ} {f f' f₁ f₂ : List Float}
-    → SoFar s count start regs classes w h b f w' h' b' f' at hn gn i
+    → SoFar s s₁ count regs classes w h b f w' h' b' f' hn gn i
     → i < count
     → count ≤ 512
-    → VirtOut s (virt_reg_at regs classes i hn gn (drop at s)) hn gn (Ok (fs, k, l, next)) (HintsAt hn b' f' b₁ f₁) (SegmentsAt gn w' h' w₁ h₁)
+    → VirtOut s₂ (virt_reg_at regs classes i hn gn s₁) hn gn (Ok (fs, k, l)) (HintsAt hn b' f' b₁ f₁) (SegmentsAt gn w' h' w₁ h₁)
     → FieldsAt fs i w₁ h₁ b₁ f₁ w₂ h₂ b₂ f₂
     → h₃ ≡ set h₂ (1042 + i) (hn + k)
     → h₄ ≡ set h₃ (1555 + i) (gn + l)
-    → SoFar s count start regs classes w h b f w₂ h₄ b₂ f₂ next (hn + k) (gn + l) (i + 1)
+    → SoFar s s₂ count regs classes w h b f w₂ h₄ b₂ f₂ (hn + k) (gn + l) (i + 1)
 unfolding virt_reg_after
-virts_more s count start regs classes at hn gn i k l next fs {w} {h} {b} {f} v lt few o p eh eg =
+virts_more s s₁ s₂ count regs classes hn gn i k l fs {w} {h} {b} {f} v lt few o p eh eg =
     let vs = v.0 in
     let x = o.0 in
     let a = v.6 in

@@ -87,19 +87,19 @@ FieldsIn f i B B' = FieldsAt f i B.j32 B.j16 B.j8 B.jf B'.j32 B'.j16 B'.j8 B'.jf
 abbrev pub VirtsIn : JobSlices → JobSlices → List VirtReg → Type 0
 VirtsIn B B' = VirtsAt B.j32 B.j16 B.j8 B.jf B'.j32 B'.j16 B'.j8 B'.jf
 
--- ---- the answers
+-- ---- the answers, each with the bytes that are left
 
-abbrev pub VirtOut : List ℕ → Parsed VirtReg → ℕ → ℕ → Result (VirtRegFields × ℕ × ℕ × ℕ) Refusal → (List Hint → Type 0) → (List ValueSegment → Type 0) → Type 0
-VirtOut s p h g (Err r) hs ss = p ≡ refused (number_of r)
-VirtOut s p h g (Ok (f, k, l, at)) hs ss =
-    (v : VirtReg) × (p ≡ parsed v (drop at s)) × Virt f k l v × (h + k ≤ 1024) × (g + l ≤ 512) × hs v.hints × ss v.segments
+abbrev pub VirtOut : List ℕ → Parsed VirtReg → ℕ → ℕ → Result (VirtRegFields × ℕ × ℕ) Refusal → (List Hint → Type 0) → (List ValueSegment → Type 0) → Type 0
+VirtOut l₁ p h g (Err r) hs ss = p ≡ refused (number_of r)
+VirtOut l₁ p h g (Ok (f, k, l)) hs ss =
+    (v : VirtReg) × (p ≡ parsed v l₁) × Virt f k l v × (h + k ≤ 1024) × (g + l ≤ 512) × hs v.hints × ss v.segments
 
-abbrev pub VirtsOut : List ℕ → Parsed (List VirtReg) → Result (ℕ × ℕ × ℕ) Refusal → (List VirtReg → Type 0) → Type 0
-VirtsOut s p (Err r) stored = p ≡ refused (number_of r)
-VirtsOut s p (Ok (h, g, at)) stored =
-    (vs : List VirtReg) × (p ≡ parsed vs (drop at s)) × (length (hints_of_all vs) ≡ h) × (length (segments_of_all vs) ≡ g) × (h ≤ 1024) × (g ≤ 512) × stored vs
+abbrev pub VirtsOut : List ℕ → Parsed (List VirtReg) → Result (ℕ × ℕ) Refusal → (List VirtReg → Type 0) → Type 0
+VirtsOut l p (Err r) stored = p ≡ refused (number_of r)
+VirtsOut l p (Ok (h, g)) stored =
+    (vs : List VirtReg) × (p ≡ parsed vs l) × (length (hints_of_all vs) ≡ h) × (length (segments_of_all vs) ≡ g) × (h ≤ 1024) × (g ≤ 512) × stored vs
 
-abbrev pub TableOut : List ℕ → Parsed (List VirtReg) → Result (ℕ × ℕ × ℕ × ℕ) Refusal → (List VirtReg → Type 0) → Type 0
-TableOut s p (Err r) stored = p ≡ refused (number_of r)
-TableOut s p (Ok (n, h, g, at)) stored =
-    (vs : List VirtReg) × (p ≡ parsed vs (drop at s)) × (length vs ≡ n) × (length (hints_of_all vs) ≡ h) × (length (segments_of_all vs) ≡ g) × (h ≤ 1024) × (g ≤ 512) × stored vs
+abbrev pub TableOut : List ℕ → Parsed (List VirtReg) → Result (ℕ × ℕ × ℕ) Refusal → (List VirtReg → Type 0) → Type 0
+TableOut l p (Err r) stored = p ≡ refused (number_of r)
+TableOut l p (Ok (n, h, g)) stored =
+    (vs : List VirtReg) × (p ≡ parsed vs l) × (length vs ≡ n) × (length (hints_of_all vs) ≡ h) × (length (segments_of_all vs) ≡ g) × (h ≤ 1024) × (g ≤ 512) × stored vs

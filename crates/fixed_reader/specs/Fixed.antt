@@ -1,5 +1,5 @@
 -- What reading a fixed reservation promises, in the terms of the parsers of Load.antt: its tests, and what is read and stored. Assumes nothing.
-use Rattle.std.specs.Prelude.{ℕ, ◌<◌, ◌≡◌, List, drop, Result, Ok, Err}
+use Rattle.std.specs.Prelude.{ℕ, ◌<◌, ◌≡◌, List, Result, Ok, Err}
 use Rattle.reg_matrix.specs.Refused.{number_of}
 use Rattle.reg_matrix.specs.declared.Entry.{Entry}
 use Rattle.reg_matrix.specs.declared.Refusal.{Refusal}
@@ -20,13 +20,10 @@ pub record EntryTested (p : Parser Entry) (r : Result Entry Refusal) : Type 0 wh
   pub view : (t : List ℕ) → test_view r t ≡ p t
   pub unit : test_unit r < 64
 
-abbrev pub entry_unit : Result (Entry × ℕ) Refusal → ℕ
-entry_unit (Ok (e, at)) = e.unit
-entry_unit (Err r) = 0
-
-pub record EntryAt (s : List ℕ) (at : ℕ) (ends : List ℕ) (r : Result (Entry × ℕ) Refusal) : Type 0 where
-  pub view : read_view s r ≡ reservation_after ends (drop at s)
-  pub unit : entry_unit r < 64
+-- the next reservation of l, after which l' is left
+pub record EntryAt (l l' ends : List ℕ) (r : Result Entry Refusal) : Type 0 where
+  pub view : read_view l' r ≡ reservation_after ends l
+  pub unit : test_unit r < 64
 
 -- ---- what is stored
 

@@ -1,18 +1,19 @@
 // Reading a job: its fixed reservations from bytes into lent numbers, as the parsers of the crate job say.
 #![tactic(auto)]
 
-ghost use Rattle.std.specs.Prelude.{◌≡◌, [], length, drop};
+ghost use Rattle.std.specs.Prelude.{◌≡◌, [], length};
 ghost use Rattle.job.specs.Load.{fixed_fields, fixed_range, fixed_tests, reservation as reservation_of};
 ghost use Rattle.job.specs.Parser.{each};
-ghost use Rattle.reader.specs.Read.{read_view, use_number, Outcome, Counted, table_of};
+ghost use Rattle.reader.specs.Read.{left, read_view, use_number, Outcome, Counted, table_of};
 ghost use Rattle.fixed_reader.specs.Fixed.{EntryTested, EntryAt, FixedIn, SameFixed};
 
 use job::FixedFields;
 use lent::{at, put};
-use reader::read::{count, little, little_if};
+use reader::read::Reader;
 use reg_matrix::{Entry, Refusal, Reservation};
 
-// The fixed reservations of a job, a slice for each of their fields: the unit, the start, the end and the use number of each.
+// The fixed reservations of a job to store, a slice for each of their fields: the unit, the start, the end and the use number of each. A slice of `Entry`
+// would take half as much memory again, and the memory is fixed.
 #[derive(Drop)]
 pub struct LentFixed<'a> {
     pub units: &'a mut [u8],
@@ -21,24 +22,50 @@ pub struct LentFixed<'a> {
     pub uses: &'a mut [u32],
 }
 
-// The fields of the fixed reservation at `start`.
+// The same to read.
+#[derive(Clone, Copy)]
+pub struct FixedList<'a> {
+    pub units: &'a [u8],
+    pub froms: &'a [u32],
+    pub tos: &'a [u32],
+    pub uses: &'a [u32],
+}
+
+impl LentFixed<'_> {
+    // The reservations to read.
+    pub fn as_list(&self) -> FixedList<'_>
+        ensures units { result.units.now ≡ self.now.units.now }
+        ensures froms { result.froms.now ≡ self.now.froms.now }
+        ensures tos { result.tos.now ≡ self.now.tos.now }
+        ensures uses { result.uses.now ≡ self.now.uses.now }
+    {
+        FixedList {
+            units: self.units,
+            froms: self.froms,
+            tos: self.tos,
+            uses: self.uses,
+        }
+    }
+}
+
+// The fields of the next fixed reservation.
 #[tactic(auto, unfolding(job::specs::Load::fixed_fields))]
-fn fixed_fields(s: &[u8], start: usize) -> Result<(FixedFields, usize), Refusal>
-    ensures { read_view s.now result ≡ fixed_fields (drop start s.now) }
+fn fixed_fields(reader: &mut Reader<'_>) -> Result<FixedFields, Refusal>
+    ensures same { reader.new.bytes ≡ reader.old.bytes }
+    ensures read { read_view (left reader.new) result ≡ fixed_fields (left reader.old) }
 {
-    let (m, at0) = little::<1>(s, start)?;
-    let (u, at1) = little_if::<1>(s, at0, m / 1 % 2 == 1)?;
-    let (a, at2) = little_if::<4>(s, at1, m / 2 % 2 == 1)?;
-    let (b, at3) = little_if::<4>(s, at2, m / 4 % 2 == 1)?;
-    let (x, next) = little_if::<2>(s, at3, m / 8 % 2 == 1)?;
-    let fields = FixedFields {
+    let m = reader.little::<1>()?;
+    let u = reader.little_if::<1>(m / 1 % 2 == 1)?;
+    let a = reader.little_if::<4>(m / 2 % 2 == 1)?;
+    let b = reader.little_if::<4>(m / 4 % 2 == 1)?;
+    let x = reader.little_if::<2>(m / 8 % 2 == 1)?;
+    Ok(FixedFields {
         map: m as u8,
         unit: u as u8,
         from: a as u32,
         to: b as u32,
         value: x as u16,
-    };
-    Ok((fields, next))
+    })
 }
 
 // The tests of a range from a to b on the unit u, whose last reservation ends at `past`.
@@ -105,17 +132,17 @@ fn fixed_tests(past: u32, f: FixedFields) -> Result<Entry, Refusal>
     )
 }
 
-// The fixed reservation at `start`, where the units' last reservations end at `ends`.
+// The next fixed reservation, where the units' last reservations end at `ends`.
 #[tactic(auto, unfolding(reader::specs::Read::reservation_after))]
-fn reservation(s: &[u8], start: usize, ends: &[u32]) -> Result<(Entry, usize), Refusal>
-    ensures { EntryAt s.now start ends.now result }
+fn reservation(reader: &mut Reader<'_>, ends: &[u32]) -> Result<Entry, Refusal>
+    ensures same { reader.new.bytes ≡ reader.old.bytes }
+    ensures read { EntryAt (left reader.old) (left reader.new) ends.now result }
 {
-    let (f, next) = fixed_fields(s, start)?;
-    let e = fixed_tests(at(ends, f.unit as usize), f)?;
-    Ok((e, next))
+    let f = fixed_fields(reader)?;
+    fixed_tests(at(ends, f.unit as usize), f)
 }
 
-// A fixed use's value and 1; 0 for any other reservation. This is the number's format in lent memory, which is fixed.
+// A fixed use's value and 1; 0 for any other reservation: what stands of a reservation in the slice of use numbers.
 fn use_number(k: Reservation) -> u32
     ensures { result ≡ use_number k }
 {
@@ -127,39 +154,35 @@ fn use_number(k: Reservation) -> u32
 
 // The fixed reservations, stored from place 0 on.
 pub fn reservations(
-    s: &[u8],
-    start: usize,
+    reader: &mut Reader<'_>,
     count: u16,
     fixed: &mut LentFixed<'_>,
-) -> Result<usize, Refusal>
-    ensures same { SameFixed fixed.old fixed.new }
-    ensures read { Outcome s.now (each reservation_of count [] (drop start s.now)) result (FixedIn fixed.old fixed.new) }
+) -> Result<(), Refusal>
+    ensures same { SameFixed fixed.old fixed.new × (reader.new.bytes ≡ reader.old.bytes) }
+    ensures read { Outcome (left reader.new) (each reservation_of count [] (left reader.old)) result (FixedIn fixed.old fixed.new) }
 {
     let mut ends = [0u32; 64];
-    let mut next = start;
     for i in 0..count as usize {
-        let (e, after) = reservation(s, next, &ends)?;
+        let e = reservation(reader, &ends)?;
         put(&mut ends, e.unit as usize, e.to);
         put(fixed.units, i, e.unit);
         put(fixed.froms, i, e.from);
         put(fixed.tos, i, e.to);
         put(fixed.uses, i, use_number(e.reservation));
-        next = after;
     }
-    Ok(next)
+    Ok(())
 }
 
-// The fixed reservations where their bit stands: how many, and the position after them.
+// The fixed reservations where their bit stands: how many.
 pub fn fixed_table(
-    s: &[u8],
-    start: usize,
+    reader: &mut Reader<'_>,
     stands: bool,
     fixed: &mut LentFixed<'_>,
-) -> Result<(u64, usize), Refusal>
-    ensures same { SameFixed fixed.old fixed.new }
-    ensures read { Counted s.now (table_of stands 2 512 reservation_of (drop start s.now)) length 512 result (FixedIn fixed.old fixed.new) }
+) -> Result<u64, Refusal>
+    ensures same { SameFixed fixed.old fixed.new × (reader.new.bytes ≡ reader.old.bytes) }
+    ensures read { Counted (left reader.new) (table_of stands 2 512 reservation_of (left reader.old)) length 512 result (FixedIn fixed.old fixed.new) }
 {
-    let (k, first) = count::<2>(s, start, stands, 512)?;
-    let next = reservations(s, first, k as u16, fixed)?;
-    Ok((k, next))
+    let k = reader.count::<2>(stands, 512)?;
+    reservations(reader, k as u16, fixed)?;
+    Ok(k)
 }

@@ -1,5 +1,6 @@
 // What is lent of a job (job/specs/Layout): a slice for each kind of number, which go from call to call together. A list of the job is a part of one of
 // them.
+use job::JobHeader;
 
 // A job to read.
 #[derive(Clone, Copy)]
@@ -9,6 +10,13 @@ pub struct LentJob<'a> {
     pub j16: &'a [u16],
     pub j8: &'a [u8],
     pub jf: &'a [f32],
+}
+
+// A job to read, once loaded, with its header: how many of everything it has.
+#[derive(Clone, Copy)]
+pub struct LoadedJob<'a> {
+    pub header: JobHeader,
+    pub job: LentJob<'a>,
 }
 
 // A job to store.

@@ -7,7 +7,7 @@ ghost use Rattle.job_parts.specs.Lent.{slices_in, SameJob};
 ghost use Rattle.run_loop.specs.Running.{state_in};
 ghost use Rattle.sheets.specs.Printing.{Begun};
 
-use job_parts::lent_job::LentJobMut;
+use job_parts::lent_job::{LentJobMut, LoadedJob};
 use listing::Listing;
 use reg_matrix::Refusal;
 use sheets::sheet::run_loaded;
@@ -31,6 +31,10 @@ pub fn begin(
         return Err(Refusal::ShortBuffer);
     }
     let header = load(s, job, state, last)?;
-    let position = run_loaded(header, job.as_job(), state, last, words);
+    let loaded = LoadedJob {
+        header,
+        job: job.as_job(),
+    };
+    let position = run_loaded(loaded, state, last, words);
     Ok(position)
 }

@@ -5,14 +5,14 @@ ghost use Rattle.job.specs.Layout.{load_limits};
 ghost use Rattle.job_parts.specs.Lent.{slices_in, SameJob};
 ghost use Rattle.job_stores.specs.Storing.{cleared};
 
-use job_parts::lent_job::LentJobMut;
+use job_parts::lent_job::{LentJob, LentJobMut};
 use lent::clear;
-use table_words::buffers::TableMut;
+use table_words::buffers::Table;
 
 // Whether a slice of the job or of the table is below its limit. They come in the limits' order.
 #[tactic(auto, unfolding(reg_matrix::specs::Refusals::short_buffer))]
-pub fn is_short(job: &LentJobMut<'_>, table: &TableMut<'_>) -> bool
-    ensures { result ≡ short_buffer load_limits (length job.now.j64.now ∷ length job.now.j32.now ∷ length job.now.j16.now ∷ length job.now.j8.now ∷ length job.now.jf.now ∷ length table.now.ends.now ∷ length table.now.rests.now ∷ []) }
+pub fn is_short(job: LentJob<'_>, table: Table<'_>) -> bool
+    ensures { result ≡ short_buffer load_limits (length job.entry.j64.now ∷ length job.entry.j32.now ∷ length job.entry.j16.now ∷ length job.entry.j8.now ∷ length job.entry.jf.now ∷ length table.entry.ends.now ∷ length table.entry.rests.now ∷ []) }
 {
     job.j64.len() < 576
         || job.j32.len() < 1536

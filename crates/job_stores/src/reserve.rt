@@ -5,14 +5,14 @@ ghost use Rattle.entries.specs.Reserving.{lain, cleared};
 ghost use Rattle.job_stores.specs.Storing.{reserving_all};
 
 use entries::reserve::{clear, reserve_fixed};
-use fixed_reader::LentFixed;
+use fixed_reader::FixedList;
 use lent::at;
 use table_words::buffers::TableMut;
 
 // The table and its fixed uses with the first n of the reservations, and nothing else.
-pub fn reserve_all(table: &mut TableMut<'_>, uses: &mut [u64], fixed: &LentFixed<'_>, n: usize)
+pub fn reserve_all(table: &mut TableMut<'_>, uses: &mut [u64], fixed: FixedList<'_>, n: usize)
     ensures same { SameTable table.old table.new }
-    ensures after { lain table.new.ends.now table.new.rests.now uses.new ≡ reserving_all fixed.now.units.now fixed.now.froms.now fixed.now.tos.now fixed.now.uses.now n (cleared (lain table.old.ends.now table.old.rests.now uses.old)) }
+    ensures after { lain table.new.ends.now table.new.rests.now uses.new ≡ reserving_all fixed.entry.units.now fixed.entry.froms.now fixed.entry.tos.now fixed.entry.uses.now n (cleared (lain table.old.ends.now table.old.rests.now uses.old)) }
 {
     clear(table, uses);
     for i in 0..n {

@@ -6,7 +6,7 @@ ghost use Rattle.reg_matrix.specs.Refused.{number_in};
 ghost use Rattle.job_parts.specs.Lent.{slices_of};
 ghost use Rattle.job_tests.specs.Tests.{equal_at, member_twice, classes_differ, crosses, crosses_at, job_refusal};
 
-use fixed_reader::LentFixed;
+use fixed_reader::FixedList;
 use job::{CLASSES, JobHeader, SETS, TOS, VALUES};
 use job_parts::lent_job::LentJob;
 use lent::{at, from};
@@ -105,14 +105,14 @@ fn crosses_use(u: u32, a: u32, b: u32, segment: ValueSegment) -> bool
 }
 
 // The segment crosses one of the first n fixed reservations.
-fn crosses_one(fixed: &LentFixed<'_>, n: usize, segment: ValueSegment) -> bool
-    ensures { result ≡ any (λ k. crosses (segment.value + 1) segment.from segment.to (get_or fixed.now.froms.now k 0) (get_or fixed.now.tos.now k 0) (get_or fixed.now.uses.now k 0)) (count 0 n) }
+fn crosses_one(fixed: FixedList<'_>, n: usize, segment: ValueSegment) -> bool
+    ensures { result ≡ any (λ k. crosses (segment.value + 1) segment.from segment.to (get_or fixed.entry.froms.now k 0) (get_or fixed.entry.tos.now k 0) (get_or fixed.entry.uses.now k 0)) (count 0 n) }
 {
     any_place(
         0,
         n,
         |k: usize| -> bool
-            ensures { result ≡ crosses (segment.value + 1) segment.from segment.to (get_or fixed.entry.now.froms.now k 0) (get_or fixed.entry.now.tos.now k 0) (get_or fixed.entry.now.uses.now k 0) }
+            ensures { result ≡ crosses (segment.value + 1) segment.from segment.to (get_or fixed.entry.froms.now k 0) (get_or fixed.entry.tos.now k 0) (get_or fixed.entry.uses.now k 0) }
         {
             crosses_use(
                 at(fixed.uses, k),
@@ -125,14 +125,14 @@ fn crosses_one(fixed: &LentFixed<'_>, n: usize, segment: ValueSegment) -> bool
 }
 
 // One of the first m segments crosses one of the first n fixed reservations.
-pub fn use_crossed(segments: Segments<'_>, m: usize, fixed: &LentFixed<'_>, n: usize) -> bool
-    ensures { result ≡ any (crosses_at segments.entry.froms.now segments.entry.tos.now segments.entry.values.now fixed.now.froms.now fixed.now.tos.now fixed.now.uses.now n) (count 0 m) }
+pub fn use_crossed(segments: Segments<'_>, m: usize, fixed: FixedList<'_>, n: usize) -> bool
+    ensures { result ≡ any (crosses_at segments.entry.froms.now segments.entry.tos.now segments.entry.values.now fixed.entry.froms.now fixed.entry.tos.now fixed.entry.uses.now n) (count 0 m) }
 {
     any_place(
         0,
         m,
         |i: usize| -> bool
-            ensures { result ≡ crosses_at segments.entry.froms.now segments.entry.tos.now segments.entry.values.now fixed.entry.now.froms.now fixed.entry.now.tos.now fixed.entry.now.uses.now n i }
+            ensures { result ≡ crosses_at segments.entry.froms.now segments.entry.tos.now segments.entry.values.now fixed.entry.froms.now fixed.entry.tos.now fixed.entry.uses.now n i }
         { crosses_one(fixed, n, segments.segment(i)) },
     )
 }
@@ -143,10 +143,10 @@ pub fn whole_refusal(
     job: LentJob<'_>,
     header: JobHeader,
     m: usize,
-    fixed: &LentFixed<'_>,
+    fixed: FixedList<'_>,
     n: usize,
 ) -> Result<(), Refusal>
-    ensures { number_in result ≡ job_refusal (slices_of job.entry) header m fixed.now.froms.now fixed.now.tos.now fixed.now.uses.now n }
+    ensures { number_in result ≡ job_refusal (slices_of job.entry) header m fixed.entry.froms.now fixed.entry.tos.now fixed.entry.uses.now n }
 {
     let (regs, classes, virt_regs) = (header.regs, header.classes, header.virt_regs);
     if same_map(job.j64, regs as usize) || register_repeats(job.j16, job.j8, classes as usize) {

@@ -8,8 +8,8 @@ use mathlib.Core.Path.{◌≡◌, refl, sym, ap, ◌∙◌, subst}
 use mathlib.Core.List.{List, [], ◌∷◌, ◌++◌}
 use mathlib.Core.Bool.{Bool, true, false, cond}
 use lib.Dec.{ltb}
-use lib.ListN.{length, get_or, take, drop, length-append}
-use lib.Seq.{sets, sets-eq, take-append_seam}
+use lib.ListN.{length, get_or, set, take, drop, length-append, length-set, take-append-drop}
+use lib.Seq.{sets, sets-eq, take-append_seam, set-append_left, length-take-le}
 use borrow.Author.Tests.{lt-ltb, le-ltb, ltb-true}
 use Rattle.reg_matrix.specs.Lists.{ascii, concat_map, filter, count, keep}
 use Rattle.reg_matrix.specs.Lines.{number, sp, refused_line, index_text, reservation_text, entry_line}
@@ -29,7 +29,7 @@ use Rattle.listing.specs.declared.Listing.{Listing}
 use Rattle.texts.proofs.Digits.{number_length, number_short}
 use Rattle.lines.specs.LineTexts.{Lent, is_spare, units_text, spare_text}
 use Rattle.result_lines.specs.ResultTexts.{standing_text}
-use Rattle.listing.specs.Walk.{number_at, line_limit, Found, no_more, a_line, is_entry, entry_at, spare_found, entry_found, virt_reg_found, found_at, found, moved, step_of, printed_on, AnsweredIfLong, record_at, spare_lines, entry_lines, virt_reg_lines, lines_at, lines_from, lines_of}
+use Rattle.listing.specs.Walk.{number_at, line_limit, Found, no_more, a_line, is_entry, entry_at, spare_found, entry_found, virt_reg_found, found_at, found, moved, step_of, printed_on, Answered, AnsweredIfLong, record_at, spare_lines, entry_lines, virt_reg_lines, lines_at, lines_from, lines_of}
 
 -- the number whose record a position asks for
 pub number_small : (p : Place) → number_at p < 512
@@ -243,3 +243,35 @@ module _ (c : Listing) (rs : List Assignment) (l : Lent) (s : List ℕ) (long : 
       let q' : t ≡ printed_on s f = a.1 ∙ ap (λ (b : Bool). cond b s (printed_on s f)) b in
       subst (λ (x : Result (Option (ℕ × Listing)) ℕ). Told c rs l t x) (sym p')
       (subst (λ (x : List ℕ). Told c rs l x (Ok (step_of c f))) (sym q') (found_told f (found_room c (record_at rs c.place) l) (lines_told c rs l)))
+
+-- ---- a longer line, of which the first 256 bytes are lent as an array
+
+set_front : (xs t : List ℕ) (i : ℕ) (ys : List ℕ) → i + length ys ≤ length xs → sets (xs ++ t) i ys ≡ sets xs i ys ++ t
+set_front xs t i [] h = refl
+set_front xs t i (y ∷ ys) h =
+    ap (λ (l : List ℕ). sets l (suc i) ys) (set-append_left xs t i y (omega (arith, h)))
+    ∙ set_front (set xs i y) t (suc i) ys (omega (arith, h, length-set xs i y))
+
+front_printed :
+    (s : List ℕ) (f : Found)
+    → Room f
+    → line_limit ≤ length s
+    → printed_on (take line_limit s) f ++ drop line_limit s ≡ printed_on s f
+front_printed s no_more k long = take-append-drop line_limit s
+front_printed s (a_line text p) k long =
+    sym (set_front (take line_limit s) (drop line_limit s) 0 text (omega (arith, k, length-take-le line_limit s long)))
+    ∙ ap (λ (l : List ℕ). sets l 0 text) (take-append-drop line_limit s)
+
+-- what is answered of the first 256 bytes is answered of the line, which changes there alone
+pub front_answered :
+    (c : Listing) (a : Assignment) (l : Lent) (s : List ℕ) {w t u : List ℕ} {r : Option (ℕ × Listing)}
+    → line_limit ≤ length s
+    → w ≡ take line_limit s
+    → Answered c (found c a l) w u r
+    → t ≡ u ++ drop line_limit s
+    → AnsweredIfLong c (found c a l) s t (Ok r)
+front_answered c a l s {w} {t} {u} {r} long e p q =
+    rw (le-ltb (length s) line_limit long) (
+      ap (λ (r : Option (ℕ × Listing)). Ok r) p.0,
+      q ∙ ap (λ (u : List ℕ). u ++ drop line_limit s) (p.1 ∙ ap (λ (w : List ℕ). printed_on w (found c a l)) e) ∙ front_printed s (found c a l) (found_room c a l) long,
+    )

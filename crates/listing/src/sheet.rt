@@ -1,5 +1,5 @@
 // A walk through the sheet that carries its position by value from line to line (01, "The printed sheet").
-ghost use Rattle.std.specs.Prelude.{◌≡◌, ◌≤◌, ◌<◌, length};
+ghost use Rattle.std.specs.Prelude.{◌≡◌, ◌<◌};
 ghost use Rattle.reg_matrix.specs.Lines.{refused_line};
 ghost use Rattle.reg_matrix.specs.Refused.{numbered};
 ghost use Rattle.listing.specs.declared.Place.TheVariants.{Head};
@@ -51,16 +51,13 @@ impl Listing {
         Listing { place, ..self }
     }
 
-    // The line that `next` is lent may be longer than 256 bytes, and std has no view of a slice as an array of a fixed length: so the length that `next`
-    // tests is what these four ask for.
     #[tactic(auto, using(crate::proofs::WalkLaws::told, crate::proofs::LineLaws::spare_room))]
     fn next_free_units(
         self,
         maps: &[u64],
         table: Table<'_>,
-        line: &mut [u8],
+        line: &mut [u8; 256],
     ) -> Option<(usize, Listing)>
-        requires { 256 ≤ length line.old }
         ensures { Answered self (spare_found self.header.probe self.header.regs (lent maps.now table.entry.ends.now table.entry.rests.now)) line.old line.new result }
     {
         let (from, to) = self.header.probe?;
@@ -74,9 +71,8 @@ impl Listing {
         i: usize,
         maps: &[u64],
         table: Table<'_>,
-        line: &mut [u8],
+        line: &mut [u8; 256],
     ) -> Option<(usize, Listing)>
-        requires { 256 ≤ length line.old }
         ensures { Answered self (entry_found i self.header (lent maps.now table.entry.ends.now table.entry.rests.now)) line.old line.new result }
     {
         if 2560 <= i {
@@ -97,9 +93,8 @@ impl Listing {
         assignment: Assignment,
         maps: &[u64],
         table: Table<'_>,
-        line: &mut [u8],
+        line: &mut [u8; 256],
     ) -> Option<(usize, Listing)>
-        requires { 256 ≤ length line.old }
         ensures { Answered self (virt_reg_found v assignment self.header (lent maps.now table.entry.ends.now table.entry.rests.now)) line.old line.new result }
     {
         if self.header.virt_regs <= v {
@@ -115,9 +110,8 @@ impl Listing {
         assignment: Assignment,
         maps: &[u64],
         table: Table<'_>,
-        line: &mut [u8],
+        line: &mut [u8; 256],
     ) -> Option<(usize, Listing)>
-        requires { 256 ≤ length line.old }
         ensures { Answered self (found self assignment (lent maps.now table.entry.ends.now table.entry.rests.now)) line.old line.new result }
     {
         match self.place {
@@ -143,9 +137,9 @@ impl Listing {
     ) -> Result<Option<(usize, Listing)>, Refusal>
         ensures { AnsweredIfLong self (found self assignment (lent maps.now table.entry.ends.now table.entry.rests.now)) line.old line.new (numbered result) }
     {
-        if line.len() < 256 {
-            return Err(Refusal::ShortBuffer);
+        match line.first_chunk_mut::<256>() {
+            None => Err(Refusal::ShortBuffer),
+            Some(front) => Ok(self.next_line(assignment, maps, table, front)),
         }
-        Ok(self.next_line(assignment, maps, table, line))
     }
 }

@@ -11,7 +11,7 @@ ghost use Rattle.words.specs.Words.{words_short};
 ghost use Rattle.pezhkadu.specs.Calling.{Called, EvictCalled};
 
 use calls::direct::{Eviction, Placement};
-use job_parts::lent_job::LentJob;
+use job_parts::lent_job::{LentJob, LoadedJob};
 use lent::put;
 use narrow::Narrow;
 use record_words::{put_record, record_at};
@@ -42,9 +42,12 @@ pub fn pezhkadu_assign(
     let reg = u8::cut(reg);
     let weight = u32::cut(weight);
     let asked = Placement { v, reg, weight };
-    let known = header_of(header);
+    let loaded = LoadedJob {
+        header: header_of(header),
+        job,
+    };
     let a = record_at(records, v);
-    let after = asked.place(a, known, job, state, last)?;
+    let after = asked.place(a, loaded, state, last)?;
     put_record(records, v, after);
     Ok(())
 }
@@ -71,9 +74,12 @@ pub fn pezhkadu_evict(
     }
     let v = u16::cut(v);
     let asked = Eviction { v };
-    let known = header_of(header);
+    let loaded = LoadedJob {
+        header: header_of(header),
+        job,
+    };
     let a = record_at(records, v);
-    let (after, reg) = asked.evict(a, known, job, state, last)?;
+    let (after, reg) = asked.evict(a, loaded, state, last)?;
     put_record(records, v, after);
     put(answer, 0, reg as u64);
     Ok(())

@@ -3,35 +3,35 @@ use Prim.Native.Nat.{ℕ, zero, suc, ◌+◌, ◌-◌, ◌≤◌, ◌<◌}
 use native.Mathlib.Omega.{arith}
 use mathlib.Core.Path.{◌≡◌, refl, ◌∙◌}
 use mathlib.Core.List.{List, [], ◌∷◌, ◌++◌}
-use lib.ListN.{length, drop, length-append}
+use lib.ListN.{length, length-append}
 use Rattle.job.specs.Parser.{Parser, Parsed, refused, parsed, and_then, each}
 
--- of the n entries from position `start` of s on, i are read: those of `before`, and the next is at `at`
-pub record Reading {A : Type 0} (s : List ℕ) (p : List A → Parser A) (n start i at : ℕ) (before : List A) : Type 0 where
+-- of the n entries that l₀ begins with, i are read: those of `before`, and l is left
+pub record Reading {A : Type 0} (p : List A → Parser A) (n i : ℕ) (l₀ l : List ℕ) (before : List A) : Type 0 where
   pub read : length before ≡ i
   pub bound : i ≤ n
-  pub rest : each p n [] (drop start s) ≡ each p (n - i) before (drop at s)
+  pub rest : each p n [] l₀ ≡ each p (n - i) before l
 
 module _ {A : Type 0} where
-  pub begin : {s : List ℕ} {p : List A → Parser A} {n start : ℕ} → Reading s p n start 0 start []
+  pub begin : {p : List A → Parser A} {n : ℕ} {l₀ : List ℕ} → Reading p n 0 l₀ l₀ []
   begin {p} {n} =
       let e : n - 0 ≡ n = omega arith in
       record { read = refl; bound = omega arith; rest = rw e }
 
-module _ {A : Type 0} {s : List ℕ} {p : List A → Parser A} {n start i at : ℕ} {before : List A} (h : Reading s p n start i at before) where
-  pub more : i < n → {x : A} {next : ℕ} → p before (drop at s) ≡ parsed x (drop next s) → Reading s p n start (i + 1) next (before ++ (x ∷ []))
+module _ {A : Type 0} {p : List A → Parser A} {n i : ℕ} {l₀ l : List ℕ} {before : List A} (h : Reading p n i l₀ l before) where
+  pub more : i < n → {x : A} {l' : List ℕ} → p before l ≡ parsed x l' → Reading p n (i + 1) l₀ l' (before ++ (x ∷ []))
   unfolding each
   more lt {x} e =
       let k : n - i ≡ suc (n - (i + 1)) = omega arith in
       record { read = rw (length-append, h.read); bound = omega arith; rest = h.rest ∙ rw (k, e) }
 
-  pub stops : i < n → {k : ℕ} → p before (drop at s) ≡ refused k → each p n [] (drop start s) ≡ refused k
+  pub stops : i < n → {k : ℕ} → p before l ≡ refused k → each p n [] l₀ ≡ refused k
   unfolding each
   stops lt e =
       let k : n - i ≡ suc (n - (i + 1)) = omega arith in
       h.rest ∙ rw (k, e)
 
-  pub ends : n ≤ i → each p n [] (drop start s) ≡ parsed before (drop at s)
+  pub ends : n ≤ i → each p n [] l₀ ≡ parsed before l
   unfolding each
   ends le =
       let k : n - i ≡ 0 = omega arith in

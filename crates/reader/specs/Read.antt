@@ -9,6 +9,7 @@ use Rattle.reg_matrix.specs.declared.ValueSegment.{ValueSegment}
 use Rattle.reg_matrix.specs.declared.Entry.{Entry}
 use Rattle.reg_matrix.specs.declared.Reservation.{Reservation}
 use Rattle.reg_matrix.specs.declared.Reservation.TheVariants.{Held, FixedUse, FixedDef}
+use Rattle.reader.specs.declared.read.Reader.{Reader}
 use Rattle.job.specs.declared.Hint.{Hint}
 use Rattle.job.specs.Model.{VirtReg}
 use Rattle.job.specs.Parser.{Parser, Parsed, refused, parsed, little, if_bit, each, ◌>>=◌}
@@ -17,41 +18,46 @@ use Rattle.job.specs.Layout.{starts_from}
 
 -- ---- numbers
 
--- what was read and the bytes left after it, or the number of the refusal
-module _ {A : Type 0} where
-  abbrev pub read_view : List ℕ → Result (A × ℕ) Refusal → Parsed A
-  read_view s (Ok (a, at)) = parsed a (drop at s)
-  read_view s (Err r) = refused (number_of r)
+-- the bytes that are left to read
+abbrev pub left : Reader → List ℕ
+left r = drop r.at r.bytes.now
 
-abbrev pub read_value : Result (ℕ × ℕ) Refusal → ℕ
-read_value (Ok (v, at)) = v
+-- what was read and the bytes l left after it, or the number of the refusal
+module _ {A : Type 0} where
+  abbrev pub read_view : List ℕ → Result A Refusal → Parsed A
+  read_view l (Ok a) = parsed a l
+  read_view l (Err r) = refused (number_of r)
+
+abbrev pub read_value : Result ℕ Refusal → ℕ
+read_value (Ok v) = v
 read_value (Err r) = 0
 
-pub record Little (s : List ℕ) (at n : ℕ) (r : Result (ℕ × ℕ) Refusal) : Type 0 where
-  pub view : read_view s r ≡ little n (drop at s)
+-- the number of n bytes, of l, after which l' is left
+pub record Little (l l' : List ℕ) (n : ℕ) (r : Result ℕ Refusal) : Type 0 where
+  pub view : read_view l' r ≡ little n l
   pub small : read_value r < 256 ^ n
 
-pub record Field (s : List ℕ) (at : ℕ) (stands : Bool) (n absent : ℕ) (r : Result (ℕ × ℕ) Refusal) : Type 0 where
-  pub view : read_view s r ≡ if_bit stands absent (little n) (drop at s)
+pub record Field (l l' : List ℕ) (stands : Bool) (n absent : ℕ) (r : Result ℕ Refusal) : Type 0 where
+  pub view : read_view l' r ≡ if_bit stands absent (little n) l
   pub small : read_value r < 256 ^ n
 
--- the answer of the parser p at a position, at most `bound`
-pub record Num (s : List ℕ) (at : ℕ) (p : Parser ℕ) (bound : ℕ) (r : Result (ℕ × ℕ) Refusal) : Type 0 where
-  pub view : read_view s r ≡ p (drop at s)
+-- the answer of the parser p at l, at most `bound`
+pub record Num (l l' : List ℕ) (p : Parser ℕ) (bound : ℕ) (r : Result ℕ Refusal) : Type 0 where
+  pub view : read_view l' r ≡ p l
   pub small : read_value r ≤ bound
 
 -- ---- tables
 
--- where the parser answers p: the same refusal, or a position and what is stored
+-- where the parser answers p: the same refusal, or the bytes l that are left and what is stored
 module _ {A : Type 0} where
-  abbrev pub Outcome : List ℕ → Parsed A → Result ℕ Refusal → (A → Type 0) → Type 0
-  Outcome s p (Err r) stored = p ≡ refused (number_of r)
-  Outcome s p (Ok at) stored = (a : A) × (p ≡ parsed a (drop at s)) × stored a
+  abbrev pub Outcome : List ℕ → Parsed A → Result (Unit {0}) Refusal → (A → Type 0) → Type 0
+  Outcome l p (Err r) stored = p ≡ refused (number_of r)
+  Outcome l p (Ok x) stored = (a : A) × (p ≡ parsed a l) × stored a
 
   -- the same with the size of what was read, which is at most `room`
-  abbrev pub Counted : List ℕ → Parsed A → (A → ℕ) → ℕ → Result (ℕ × ℕ) Refusal → (A → Type 0) → Type 0
-  Counted s p size room (Err r) stored = p ≡ refused (number_of r)
-  Counted s p size room (Ok (k, at)) stored = (a : A) × (p ≡ parsed a (drop at s)) × (size a ≡ k) × (k ≤ room) × stored a
+  abbrev pub Counted : List ℕ → Parsed A → (A → ℕ) → ℕ → Result ℕ Refusal → (A → Type 0) → Type 0
+  Counted l p size room (Err r) stored = p ≡ refused (number_of r)
+  Counted l p size room (Ok k) stored = (a : A) × (p ≡ parsed a l) × (size a ≡ k) × (k ≤ room) × stored a
 
   -- a count of n bytes, and as many, where their bit stands
   abbrev pub table_of : Bool → ℕ → ℕ → (List A → Parser A) → Parser (List A)

@@ -1,12 +1,13 @@
 -- What a record's word says when it is read again. Assumes nothing.
-use Prim.Native.Nat.{ℕ, zero, suc, ◌+◌, ◌*◌, ◌%◌, ◌/◌, ◌≤◌, ◌<◌}
+use Prim.Native.Nat.{ℕ, zero, suc, ◌+◌, ◌*◌, ◌%◌, ◌/◌, ◌≤◌, ◌<◌, min}
+use native.Mathlib.Decide.{dec_lt}
 use native.Mathlib.Omega.{arith}
 use native.Mathlib.Numerals.{add-one}
 use mathlib.Core.Path.{◌≡◌, refl, sym, ap, subst, ◌∙◌}
 use mathlib.Core.List.{List, [], ◌∷◌, ◌++◌, map}
 use mathlib.Core.Bool.{Bool, true, false, not}
 use lib.Dec.{T, eqb}
-use lib.ListN.{length, get_or, set, take, drop, take-append-drop, length-map, length-set, get_or-map, get_or-append, get_or-eq_default}
+use lib.ListN.{length, get_or, set, take, drop, take-append-drop, drop_of_length-le, length-map, length-set, get_or-map, get_or-append, get_or-eq_default}
 use lib.Seq.{sets, sets-eq, length-sets, take_at, take_all, drop_at, drop-cons, drop-set-lt, set_out, get_or-set_same, get_or-set_other, ext_get_or}
 use lib.Ieee.{Float, nan, inf, fin, binary32, of_bits, to_bits, is_nan, fits, ne, eq}
 use lib.Ieee.Compare.{differs_from_itself}
@@ -177,6 +178,11 @@ module _ {rs : List Assignment} {ws₀ ws : List ℕ} {i : ℕ} (h : Storing rs 
       ext_get_or Dead (records_in ws) rs (in_length ws ∙ sym h.size)
       (λ v b. let k : v < 512 = omega (arith, in_length ws) in record_in_lem ws v k ∙ h.back p m v (omega arith))
 
+-- past the end nothing is stored
+sets_past : {A : Type 0} (l : List A) (i : ℕ) (vs : List A) → length l ≤ i → sets l i vs ≡ l
+sets_past l i [] h = refl
+sets_past l i (a ∷ vs) h = rw (set_out l i a h) (sets_past l (suc i) vs (omega arith))
+
 -- ---- words stored anew as the words of their records
 
 -- those before i are, and the others are as they were
@@ -197,6 +203,14 @@ module _ {ws₀ ws : List ℕ} {i : ℕ} (h : Renewing ws₀ ws i) where
         stored = store_more h.stored ws' x Dead l (rw (← same) e) e';
         others = λ v b. rw (e', get_or-set_other ws i v x 0 (λ q. omega (arith, q))) (h.others v (omega arith));
       }
+
+  -- all words that are there
+  pub renew_end : min (length ws₀) 512 ≤ i → ws ≡ sets ws₀ 0 (map record_word (records_in ws₀))
+  renew_end l = sym (h.stored.rest ∙ go (dec_lt i 512))
+    where
+      go : Dec (i < 512) → sets ws i (map record_word (drop i (records_in ws₀))) ≡ ws
+      go (yes b) = sets_past ws i (map record_word (drop i (records_in ws₀))) (omega (arith, h.stored.kept))
+      go (no b) = let k : length (records_in ws₀) ≤ i = omega (arith, h.stored.size) in rw (drop_of_length-le (records_in ws₀) k)
 
 -- ---- the words of records
 

@@ -88,8 +88,8 @@ pub fn store(records: [Assignment; 512], words: &mut [u64])
     ensures words_after { words.new ≡ sets words.old 0 (map record_word records) }
     ensures read_back { AllPlain records → 512 ≤ length words.old → records_in words.new ≡ records }
 {
-    for i in 0..512 {
-        put(words, i, word_of(records[i]));
+    for (i, record) in records.iter().enumerate() {
+        put(words, i, word_of(*record));
     }
 }
 
@@ -100,8 +100,8 @@ pub fn read(words: &[u64]) -> [Assignment; 512]
     let mut all = [Assignment::Unassigned {
         evicted_for_preference: false,
     }; 512];
-    for i in 0..512 {
-        all[i] = record_of(at(words, i));
+    for (i, record) in all.iter_mut().enumerate() {
+        *record = record_of(at(words, i));
     }
     all
 }
@@ -112,7 +112,8 @@ pub fn renew(words: &mut [u64])
     ensures words_after { words.new ≡ sets words.old 0 (map record_word (records_in words.old)) }
     ensures words_unchanged { AllPlain (records_in words.old) → 512 ≤ length words.old → records_in words.new ≡ records_in words.old }
 {
-    for i in 0..512 {
-        put(words, i, word_of(record_of(at(words, i))));
+    let n = words.len().min(512);
+    for word in &mut words[..n] {
+        *word = word_of(record_of(*word));
     }
 }

@@ -1,5 +1,5 @@
 // Reading standard input in pieces.
-ghost use Rattle.std.specs.Prelude.{◌≡◌, ◌+◌, ◌≤◌};
+ghost use Rattle.std.specs.Prelude.{◌≡◌, ◌+◌, ◌≤◌, is_some};
 ghost use Rattle.script_bytes.specs.Reading.{SomeRead, Took, NumberRead};
 
 // Standard input, of which a script still has `left` bytes.
@@ -37,19 +37,19 @@ impl Input {
         self.read_some(n, &mut piece)
     }
 
-    // Reads n bytes and forgets them. Answers whether they were all there.
-    pub fn skip(&mut self, n: u64) -> bool
-        ensures { Took n self.old.left self.new.left result }
+    // Reads n bytes and forgets them, if they are all there; else those that are.
+    pub fn skip(&mut self, n: u64) -> Option<()>
+        ensures { Took n self.old.left self.new.left (is_some result) }
     {
         let mut more = n;
         // a `for` is no plainer: how much comes in a piece is not known before
         while 0 < more {
             let got = self.skip_some(more);
             if got == 0 {
-                return false;
+                return None;
             }
             more -= got;
         }
-        true
+        Some(())
     }
 }

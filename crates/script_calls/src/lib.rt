@@ -8,10 +8,12 @@ ghost use Rattle.table_words.specs.Buffers.{SameState};
 ghost use Rattle.script_calls.specs.Calls.{CallTook};
 
 use allocator::Assignment;
-use call_lists::lists::carry_out_list;
-use job::{JobHeader, USES};
-use job_parts::lent_job::LentJob;
+use answers::answer_line;
+use call_lists::lists::ListedCall;
+use job::USES;
+use job_parts::lent_job::LoadedJob;
 use lent::from;
+use narrow::Narrow;
 use records::first_records;
 use script_bytes::input::Input;
 use script_bytes::output::print;
@@ -21,19 +23,23 @@ use transcript::states;
 
 pub mod loading;
 
-// A call or a question as it was read. Its numbers are as wide as a script may give them.
+// A question as it was read. Its numbers are as wide as a script may give them.
 #[derive(Clone, Copy, PartialEq, Eq, Debug)]
-enum Call {
-    Place { v: u64, reg: u64, weight: u64 },
-    Evict { v: u64 },
-    Run { budget: u64 },
+enum Question {
     Check { reg: u64, segments: u64, full: bool },
     IsUnitFree { unit: u64, from: u64, to: u64 },
 }
 
-// What is bad in a script: a call of no known kind, or one that is not all there.
+// What a script has next: a call to make, or a question.
 #[derive(Clone, Copy, PartialEq, Eq, Debug)]
-struct Bad;
+enum Call {
+    Made(ListedCall),
+    Asked(Question),
+}
+
+// What is bad in a script: a call of no known kind, or anything that is not all there.
+#[derive(Clone, Copy, PartialEq, Eq, Debug)]
+pub struct Bad;
 
 // Reads the arguments of a call or a question of this kind. A check's segments come after them.
 fn read_arguments(input: &mut Input, kind: u64) -> Option<Call>
@@ -41,33 +47,34 @@ fn read_arguments(input: &mut Input, kind: u64) -> Option<Call>
 {
     match kind {
         1 => {
-            let v = input.read_number(2)?;
-            let reg = input.read_number(1)?;
-            let weight = input.read_number(4)?;
-            Some(Call::Place { v, reg, weight })
+            let v = u16::cut(input.read_number(2)?);
+            let reg = u8::cut(input.read_number(1)?);
+            let weight = u32::cut(input.read_number(4)?);
+            Some(Call::Made(ListedCall::Place(v, reg, weight)))
         }
         2 => {
-            let v = input.read_number(2)?;
-            Some(Call::Evict { v })
+            let v = u16::cut(input.read_number(2)?);
+            Some(Call::Made(ListedCall::Evict(v)))
         }
         3 => {
             let budget = input.read_number(4)?;
-            Some(Call::Run { budget })
+            Some(Call::Made(ListedCall::Run(budget)))
         }
         4 | 5 => {
             let reg = input.read_number(1)?;
             let segments = input.read_number(1)?;
-            Some(Call::Check {
+            let full = kind == 5;
+            Some(Call::Asked(Question::Check {
                 reg,
                 segments,
-                full: kind == 5,
-            })
+                full,
+            }))
         }
         6 => {
             let unit = input.read_number(1)?;
             let from = input.read_number(4)?;
             let to = input.read_number(4)?;
-            Some(Call::IsUnitFree { unit, from, to })
+            Some(Call::Asked(Question::IsUnitFree { unit, from, to }))
         }
         _ => None,
     }
@@ -80,24 +87,23 @@ fn read_call(input: &mut Input) -> Result<Option<Call>, Bad>
     let Some(kind) = input.read_number(1) else {
         return Ok(None);
     };
-    match read_arguments(input, kind) {
-        Some(call) => Ok(Some(call)),
-        None => Err(Bad),
-    }
+    let call = read_arguments(input, kind).ok_or(Bad)?;
+    Ok(Some(call))
 }
 
 // The records of the first n virtual registers.
 fn print_records(records: [Assignment; 512], n: u16, line: &mut [u8]) {
-    for v in 0..n.min(512) {
-        let length = states::record_line(line, v, records[v as usize]);
+    for (v, record) in (0..n).zip(records) {
+        let length = states::record_line(line, v, record);
         print(line, length);
     }
 }
 
 // The entries of the table, from the first on.
-fn print_entries(header: JobHeader, maps: &[u64], table: Table<'_>, line: &mut [u8]) {
+fn print_entries(loaded: LoadedJob<'_>, table: Table<'_>, line: &mut [u8]) {
+    let maps = loaded.job.j64;
     for i in 0..2560 {
-        let length = states::entry_line(line, header, i, maps, table);
+        let length = states::entry_line(line, loaded.header, i, maps, table);
         if length == 0 {
             return;
         }
@@ -108,71 +114,59 @@ fn print_entries(header: JobHeader, maps: &[u64], table: Table<'_>, line: &mut [
 // The whole state: records, queue, last registers, entries.
 fn print_state(
     records: [Assignment; 512],
-    header: JobHeader,
-    maps: &[u64],
+    loaded: LoadedJob<'_>,
     state: &LentState<'_>,
     last: &[u8],
     line: &mut [u8],
 ) {
-    print_records(records, header.virt_regs, line);
-    let keys = states::queue_line(line, state.queue, header.virt_regs);
+    let n = loaded.header.virt_regs;
+    print_records(records, n, line);
+    let keys = states::queue_line(line, state.queue, n);
     print(line, keys);
     let regs = states::last_line(line, last);
     print(line, regs);
-    print_entries(header, maps, state.as_table(), line);
+    print_entries(loaded, state.as_table(), line);
 }
 
-// Makes the call of these four words, as a list of calls has it, and prints what it answers and the state afterwards. What returns is the records
-// afterwards.
+// Makes the call, and prints what it answers and the state afterwards. What returns is the records afterwards.
 fn make(
-    list: [u64; 4],
+    call: ListedCall,
     records: [Assignment; 512],
-    header: JobHeader,
-    job: LentJob<'_>,
+    loaded: LoadedJob<'_>,
     state: &mut LentState<'_>,
     last: &mut [u8],
     line: &mut [u8],
 ) -> [Assignment; 512]
     ensures { SameState state.old state.new }
 {
-    let mut numbers = [0u64; 3];
-    let done = carry_out_list(records, header, &list, job, state, last, &mut numbers);
-    // not met: three numbers have room for the answer of a list of one call
-    let Ok(made) = done else {
-        return records;
+    let mut all = records;
+    let length = match call.make(records, loaded, state, last) {
+        Ok(done) => {
+            // tried, and not covered by the check: the array taken straight from the pattern
+            all = done.0;
+            let (word, value) = done.1.numbers();
+            answer_line(line, 0, word, value)
+        }
+        Err(refusal) => answer_line(line, refusal.number(), 0, 0),
     };
-    // tried, and not covered by the check: the array taken straight from the pattern
-    let after = made.0;
-    let length = answers::answer_line(line, numbers[0], numbers[1], numbers[2]);
     print(line, length);
-    print_state(after, header, job.j64, state, last, line);
-    after
+    print_state(all, loaded, state, last, line);
+    all
 }
 
-impl Call {
-    // The words of a call in a list of calls: its kind's number and its arguments. None of a question, which is asked.
-    fn words(self) -> Option<[u64; 4]> {
-        match self {
-            Call::Place { v, reg, weight } => Some([1, v, reg, weight]),
-            Call::Evict { v } => Some([2, v, 0, 0]),
-            Call::Run { budget } => Some([3, budget, 0, 0]),
-            Call::Check { .. } | Call::IsUnitFree { .. } => None,
-        }
-    }
-
-    // Asks a question, and prints what is answered. Answers whether it was all there, with its segments.
+impl Question {
+    // Asks it, and prints what is answered, if all that it needs is there.
     fn ask(
         self,
         input: &mut Input,
-        header: JobHeader,
-        maps: &[u64],
+        loaded: LoadedJob<'_>,
         table: Table<'_>,
         line: &mut [u8],
-    ) -> bool
+    ) -> Result<(), Bad>
         ensures { input.new.left ≤ input.old.left }
     {
         match self {
-            Call::Check {
+            Question::Check {
                 reg,
                 segments,
                 full,
@@ -180,20 +174,20 @@ impl Call {
                 input,
                 reg,
                 segments,
-                header.regs,
+                loaded.header.regs,
                 full,
-                maps,
+                loaded.job.j64,
                 RegMatrix {
                     table,
-                    uses: from(maps, USES),
+                    uses: from(loaded.job.j64, USES),
                 },
                 line,
-            ),
-            Call::IsUnitFree { unit, from, to } => {
+            )
+            .ok_or(Bad),
+            Question::IsUnitFree { unit, from, to } => {
                 let _ = ask_unit_free(unit, from, to, table, line);
-                true
+                Ok(())
             }
-            _ => true,
         }
     }
 }
@@ -201,9 +195,8 @@ impl Call {
 // Makes the calls of a script, which the input has next, on a loaded job, each followed by the state, and asks its questions, up to its end or to
 // what is bad. What is left of the script never grows.
 fn make_calls(
-    header: JobHeader,
     input: &mut Input,
-    job: LentJob<'_>,
+    loaded: LoadedJob<'_>,
     state: &mut LentState<'_>,
     last: &mut [u8],
     line: &mut [u8],
@@ -214,12 +207,13 @@ fn make_calls(
     let mut all = first_records();
     // a `for` is no plainer: whether a call follows is known when it is read, and reading may fail
     while let Some(call) = read_call(input)? {
-        if let Some(list) = call.words() {
-            // tried, and not covered by the check: the call's array given straight to `all`
-            let after = make(list, all, header, job, state, last, line);
-            all = after;
-        } else if !call.ask(input, header, job.j64, state.as_table(), line) {
-            return Err(Bad);
+        match call {
+            Call::Made(asked) => {
+                // tried, and not covered by the check: the call's array given straight to `all`
+                let after = make(asked, all, loaded, state, last, line);
+                all = after;
+            }
+            Call::Asked(question) => question.ask(input, loaded, state.as_table(), line)?,
         }
     }
     Ok(())

@@ -1,8 +1,8 @@
 // The job of a script, loaded, with the calls on it.
 ghost use Rattle.std.specs.Prelude.{◌≤◌};
 
-use crate::make_calls;
-use job_parts::lent_job::LentJobMut;
+use crate::{Bad, make_calls};
+use job_parts::lent_job::{LentJobMut, LoadedJob};
 use reg_matrix::Refusal;
 use script_bytes::input::Input;
 use script_bytes::output::print;
@@ -16,8 +16,8 @@ fn print_refused(line: &mut [u8], r: Refusal) {
 }
 
 // Loads the job of these bytes into buffers of its own, and makes the calls of a script on it, which the input has next. A refused job prints its
-// refusal alone. Answers whether the script was good; what is left of it never grows.
-pub fn run_job(bytes: &[u8], input: &mut Input, line: &mut [u8]) -> bool
+// refusal alone. What is left of the script never grows.
+pub fn run_job(bytes: &[u8], input: &mut Input, line: &mut [u8]) -> Result<(), Bad>
     ensures { input.new.left ≤ input.old.left }
 {
     let mut j64 = [0u64; 576];
@@ -45,11 +45,14 @@ pub fn run_job(bytes: &[u8], input: &mut Input, line: &mut [u8]) -> bool
     match loaded {
         Err(r) => {
             print_refused(line, r);
-            true
+            Ok(())
         }
         Ok(header) => {
-            let job = job.as_job();
-            make_calls(header, input, job, &mut state, &mut last, line).is_ok()
+            let loaded = LoadedJob {
+                header,
+                job: job.as_job(),
+            };
+            make_calls(input, loaded, &mut state, &mut last, line)
         }
     }
 }

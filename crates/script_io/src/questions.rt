@@ -30,17 +30,14 @@ fn read_segment(input: &mut Input) -> Option<ValueSegment>
     })
 }
 
-// Reads the segments of a check into the list. Answers whether they were all there.
-fn read_segments(input: &mut Input, list: &mut [ValueSegment]) -> bool
-    ensures { Took (10 * length list.old) input.old.left input.new.left result }
+// Reads the segments of a check into the list, if they are all there.
+fn read_segments(input: &mut Input, list: &mut [ValueSegment]) -> Option<()>
+    ensures { Took (10 * length list.old) input.old.left input.new.left (is_some result) }
 {
     for segment in list {
-        let Some(read) = read_segment(input) else {
-            return false;
-        };
-        *segment = read;
+        *segment = read_segment(input)?;
     }
-    true
+    Some(())
 }
 
 // Prints the reports on these segments from this position on.
@@ -77,8 +74,7 @@ fn check(
     }
 }
 
-// Reads the segments of a check, at most 255 of ten bytes each, and makes it, on one of the first `count` registers. Answers whether they were all
-// there.
+// Reads the segments of a check, at most 255 of ten bytes each, and makes it, if they are all there, on one of the first `count` registers.
 pub fn ask_check(
     input: &mut Input,
     reg: u64,
@@ -88,8 +84,8 @@ pub fn ask_check(
     maps: &[u64],
     matrix: RegMatrix<'_>,
     line: &mut [u8],
-) -> bool
-    ensures { Took (10 * cut 255 segments) input.old.left input.new.left result }
+) -> Option<()>
+    ensures { Took (10 * cut 255 segments) input.old.left input.new.left (is_some result) }
 {
     let none = ValueSegment {
         from: 0,
@@ -98,11 +94,9 @@ pub fn ask_check(
     };
     let mut room = [none; 255];
     let list = &mut room[..u8::cut(segments) as usize];
-    if !read_segments(input, list) {
-        return false;
-    }
+    read_segments(input, list)?;
     check(list, reg, count, full, maps, matrix, line);
-    true
+    Some(())
 }
 
 // Asks whether the unit is spare from `from` to `to`, prints what is answered, and answers it. A number that is too wide for its type is asked as the

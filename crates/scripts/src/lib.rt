@@ -7,31 +7,27 @@ ghost use Rattle.std.specs.Prelude.{◌≤◌};
 use lent::part;
 use script_bytes::input::Input;
 use script_bytes::output::print;
+use script_calls::Bad;
 use script_calls::loading::run_job;
 
-// Reads a job of `length` bytes: the first 32,769 are kept, one more than a job may have, and the others are read and forgotten. Answers whether
-// they were all there.
-fn read_job(input: &mut Input, length: u64, bytes: &mut [u8]) -> bool
+// Reads a job of `length` bytes, if they are all there: the first 32,769 are kept, one more than a job may have, and the others are read and forgotten.
+fn read_job(input: &mut Input, length: u64, bytes: &mut [u8]) -> Option<()>
     ensures { input.new.left ≤ input.old.left }
 {
     let kept = length.min(32769);
     if input.read_some(kept, bytes) < kept {
-        return false;
+        return None;
     }
     input.skip(length - kept)
 }
 
-// Reads the script that the input has and prints its transcript, up to where it is bad. Answers whether it was good to its end.
-fn print_script(input: &mut Input, line: &mut [u8]) -> bool
+// Reads the script that the input has and prints its transcript, up to where it is bad.
+fn print_script(input: &mut Input, line: &mut [u8]) -> Result<(), Bad>
     ensures { input.new.left ≤ input.old.left }
 {
     let mut bytes = [0u8; 32769];
-    let Some(size) = input.read_number(4) else {
-        return false;
-    };
-    if !read_job(input, size, &mut bytes) {
-        return false;
-    }
+    let size = input.read_number(4).ok_or(Bad)?;
+    read_job(input, size, &mut bytes).ok_or(Bad)?;
     let kept = size.min(32769) as usize;
     run_job(part(&bytes, 0, kept), input, line)
 }
@@ -44,11 +40,11 @@ pub fn run_script(length: u64) -> u64
 {
     let mut input = Input { left: length };
     let mut line = [0u8; 16384];
-    if !print_script(&mut input, &mut line) {
+    if print_script(&mut input, &mut line).is_err() {
         let size = answers::bad_line(&mut line);
         print(&line, size);
     }
     let rest = input.left;
-    input.skip(rest);
+    let _ = input.skip(rest);
     input.left
 }

@@ -97,7 +97,7 @@ fn is_own(table: Table<'_>, v: u16, end: u64, place: usize) -> bool
         && at(table.rests, place) % 0x1_0000_0000 / 0x1_0000 == v as u64 + 2
 }
 
-// Puts the fixed uses number `first` to `last` back.
+// Puts the fixed uses number `first` to `last` back. By number, since the slice may be shorter: a part of it would have to lie within it.
 fn insert_uses(table: &mut TableMut<'_>, uses: &[u64], first: usize, last: usize)
     ensures same { SameTable table.old table.new }
     ensures after { words_of table.new ≡ inserting_uses (last - first) first uses.now (words_of table.old) }

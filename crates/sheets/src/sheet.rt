@@ -6,8 +6,7 @@ ghost use Rattle.run_loop.specs.Running.{state_in};
 ghost use Rattle.lines.specs.LineTexts.{lent};
 ghost use Rattle.sheets.specs.Printing.{RunStored, NextLine};
 
-use job::JobHeader;
-use job_parts::lent_job::LentJob;
+use job_parts::lent_job::LoadedJob;
 use lent::at;
 use listing::Listing;
 use record_words::{record_of, store};
@@ -18,21 +17,20 @@ use table_words::buffers::{LentState, Table};
 
 // Runs what was loaded with the job's budget, with its records in the words. The answer is the position before the sheet's first line.
 pub fn run_loaded(
-    header: JobHeader,
-    job: LentJob<'_>,
+    loaded: LoadedJob<'_>,
     state: &mut LentState<'_>,
     last: &mut [u8],
     words: &mut [u64],
 ) -> Listing
     ensures same { SameState state.old state.new }
-    ensures stored { RunStored header (slices_of job.entry) (state_in state.old last.old) words.old (state_in state.new last.new) words.new result }
+    ensures stored { RunStored loaded.entry.header (slices_of loaded.entry.job) (state_in state.old last.old) words.old (state_in state.new last.new) words.new result }
 {
     store(first_records(), words);
     let n = words.len().min(512);
     let all = &mut words[..n];
-    let budget = header.budget as u64;
-    let end = run_on(budget, job, state, last, all);
-    Listing::start(end.ending, end.dequeues, header)
+    let budget = loaded.header.budget as u64;
+    let end = run_on(budget, loaded.job, state, last, all);
+    Listing::start(end.ending, end.dequeues, loaded.header)
 }
 
 // Stores the next line of the sheet from the front of the lent line, and answers its length and the position after it, or that there is none. What is

@@ -1,16 +1,15 @@
-// A dequeue's decision (`Context::allocate`, `find_available_reg`).
+// The searches of a dequeue (`Context::allocate`): for a clear register (`find_available_reg`), and for one to evict from.
 ghost use Rattle.std.specs.Prelude.{◌≡◌, None, false};
 ghost use Rattle.reg_matrix.specs.Lists.{is_nil};
 ghost use Rattle.matrix.specs.Walk.{lent_in};
 ghost use Rattle.order.specs.Hinted.{listed, offers};
 ghost use Rattle.record_words.specs.Words.{held_in};
 ghost use Rattle.stage.specs.Searching.{lent_for};
-ghost use Rattle.stage.specs.AllocateWalk.{reports_on, none_of, available_in, cost_so_far, taking, by_cost, improves, evict_in, prefers, prefer_in};
+ghost use Rattle.stage.specs.AllocateWalk.{reports_on, none_of, available_in, cost_so_far, taking, by_cost, evict_in, prefers, prefer_in};
 
-use crate::evict::{Limit, Tried};
+use crate::evict::{Limit, Tried, can_win};
 use crate::search::Search;
 use allocator::{CandidateReg, EvictCost};
-use evict_costs::{is_cheaper, may_evict};
 use lent::at;
 use matrix::check::enter;
 use order::allocation_order::AllocationOrder;
@@ -95,13 +94,6 @@ fn by_cost(flag: bool, own: f32, c: CandidateReg, best: EvictCost) -> Limit
     }
 }
 
-// Whether a candidate may be evicted from, for a number with this flag and spill weight, and costs less than the best so far.
-fn is_better(flag: bool, own: f32, c: CandidateReg, t: &Tried, best: EvictCost) -> bool
-    ensures { result ≡ improves flag own c t.now best }
-{
-    may_evict(c.preference_weight, flag, t.cost.spill_weight, own) && is_cheaper(t.cost, best)
-}
-
 // The candidate as the best one, at what it was found to cost and with its holders.
 fn found(c: CandidateReg, t: Tried) -> Best
     ensures { result ≡ taking c t }
@@ -129,12 +121,11 @@ pub fn try_evict(
             continue;
         };
         let units = at(search.maps, c.reg as usize);
-        let so_far = cost_so_far(&best);
-        let limit = by_cost(flag, own, c, so_far);
+        let limit = by_cost(flag, own, c, cost_so_far(&best));
         let Some(t) = limit.try_reports(units, search) else {
             continue;
         };
-        if is_better(flag, own, c, &t, so_far) {
+        if can_win(limit, t.cost, t.every_report) {
             best = Some(found(c, t));
         }
     }
@@ -156,15 +147,14 @@ pub fn try_evict_for_preferred_reg(
 ) -> Option<Best>
     ensures { result ≡ prefer_in (lent_for search.now) search.now.maps.now (held_in search.now.words.now) search.now.spills.now clear (listed hinted.now) }
 {
-    for place in 0..hinted.count {
-        let c = hinted.regs[place];
+    for c in &hinted.regs[..hinted.count] {
         let units = at(search.maps, c.reg as usize);
         let limit = Limit::ByWeight(c.preference_weight);
         let Some(t) = limit.try_reports(units, search) else {
             continue;
         };
-        if is_preferred(clear, c, &t) {
-            return Some(found(c, t));
+        if is_preferred(clear, *c, &t) {
+            return Some(found(*c, t));
         }
     }
     None

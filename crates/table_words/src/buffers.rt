@@ -7,7 +7,8 @@ pub struct Table<'a> {
     pub rests: &'a [u64],
 }
 
-// The table to change.
+// The table to change. The fixed uses go beside it where a move reads them: a struct of both would be no plainer, as what changes the table (entries)
+// takes the table alone, so that each move would make a `TableMut` of it again, and what reads the fixed uses takes no table.
 #[derive(Drop)]
 pub struct TableMut<'a> {
     pub ends: &'a mut [u64],
@@ -21,7 +22,8 @@ pub struct RegMatrix<'a> {
     pub uses: &'a [u64],
 }
 
-// A stage's state to change: the table and the queue. The registers last given go beside it, as an eviction is lent them to read only.
+// A stage's state to change: the table and the queue. The registers last given go beside it: C lends `last` to an eviction to read only
+// (pezhkadu_evict).
 #[derive(Drop)]
 pub struct LentState<'a> {
     pub ends: &'a mut [u64],

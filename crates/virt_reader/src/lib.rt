@@ -1,23 +1,25 @@
-// Reading a job: what stands before a virtual register's hints, one hint and one segment, from bytes, as the parsers of the crate job say.
+// Reading a job: what stands before a virtual register's hints, one hint and one range, from bytes, as the parsers of the crate job say.
 #![tactic(auto)]
 
-ghost use Rattle.std.specs.Prelude.{◌≡◌, not, ◌&&◌, ◌/◌, ◌%◌, eqb, drop};
+ghost use Rattle.std.specs.Prelude.{◌≡◌, IfOk, false, not, ◌&&◌, ◌/◌, ◌%◌, eqb};
 ghost use Rattle.job.specs.Load.{hint as hint_of, range as range_of, spill_bits, known as known_of, virt_reg_fields};
 ghost use Rattle.job.specs.Parser.{if_bit, little as little_of};
-ghost use Rattle.reader.specs.Read.{read_view, Num};
+ghost use Rattle.reader.specs.Read.{left, read_view, Num};
 
 use job::{Hint, VirtRegFields};
-use reader::read::{known, little, little_if};
+use reader::read::Reader;
 use reg_matrix::{Refusal, ValueSegment};
 
-// The segment at `at`, after one that ends at `past`.
+// The next range, of which none may start before `past`, with its value where it has one: a segment has one, and a probe range 0.
 #[tactic(auto, unfolding(job::specs::Load::range))]
-pub fn segment(s: &[u8], at: usize, past: u32) -> Result<(ValueSegment, usize), Refusal>
-    ensures { read_view s.now result ≡ range_of past (little_of 2) (drop at s.now) }
+pub fn range(reader: &mut Reader<'_>, past: u32, valued: bool) -> Result<ValueSegment, Refusal>
+    ensures same { reader.new.bytes ≡ reader.old.bytes }
+    ensures read { read_view (left reader.new) result ≡ range_of past (if_bit valued 0 (little_of 2)) (left reader.old) }
+    ensures bare { IfOk result (λ r. valued ≡ false → r.value ≡ 0) }
 {
-    let (a, at1) = little::<4>(s, at)?;
-    let (b, at2) = little::<4>(s, at1)?;
-    let (x, next) = little::<2>(s, at2)?;
+    let a = reader.little::<4>()?;
+    let b = reader.little::<4>()?;
+    let x = reader.little_if::<2>(valued)?;
     if b <= a {
         return Err(Refusal::Empty);
     }
@@ -30,21 +32,21 @@ pub fn segment(s: &[u8], at: usize, past: u32) -> Result<(ValueSegment, usize), 
     if a < past as u64 {
         return Err(Refusal::Unsorted);
     }
-    let segment = ValueSegment {
+    Ok(ValueSegment {
         from: a as u32,
         to: b as u32,
         value: x as u16,
-    };
-    Ok((segment, next))
+    })
 }
 
-// The hint at `at`, of one of `regs` registers. The greatest bits of a finite weight are those before infinity's.
+// The next hint, of one of `regs` registers. The greatest bits of a finite weight are those before infinity's.
 #[tactic(auto, unfolding(job::specs::Load::hint))]
-pub fn hint(s: &[u8], at: usize, regs: u64) -> Result<(Hint, usize), Refusal>
-    ensures { read_view s.now result ≡ hint_of regs (drop at s.now) }
+pub fn hint(reader: &mut Reader<'_>, regs: u64) -> Result<Hint, Refusal>
+    ensures same { reader.new.bytes ≡ reader.old.bytes }
+    ensures read { read_view (left reader.new) result ≡ hint_of regs (left reader.old) }
 {
-    let (r, at1) = little::<1>(s, at)?;
-    let (w, next) = little::<4>(s, at1)?;
+    let r = reader.little::<1>()?;
+    let w = reader.little::<4>()?;
     if regs <= r {
         return Err(Refusal::UnknownNumber);
     }
@@ -55,44 +57,47 @@ pub fn hint(s: &[u8], at: usize, regs: u64) -> Result<(Hint, usize), Refusal>
         reg: r as u8,
         weight: f32::from_bits(w as u32),
     };
-    Ok((hint, next))
+    Ok(hint)
 }
 
 // The class where bit 0 of `m` stands, and 0 elsewhere.
-fn class_field(s: &[u8], at: usize, m: u64, classes: u64) -> Result<(u64, usize), Refusal>
-    ensures { Num s.now at (if_bit (eqb (m / 1 % 2) 1) 0 (known_of 1 classes)) classes result }
+fn class_field(reader: &mut Reader<'_>, m: u64, classes: u64) -> Result<u64, Refusal>
+    ensures same { reader.new.bytes ≡ reader.old.bytes }
+    ensures read { Num (left reader.old) (left reader.new) (if_bit (eqb (m / 1 % 2) 1) 0 (known_of 1 classes)) classes result }
 {
     if m / 1 % 2 == 1 {
-        known::<1>(s, at, classes)
+        reader.known::<1>(classes)
     } else {
-        Ok((0, at))
+        Ok(0)
     }
 }
 
 // The set where bit 1 of `m` stands, and the number of its own elsewhere.
-fn set_field(s: &[u8], at: usize, m: u64, own: u16) -> Result<(u64, usize), Refusal>
-    ensures { Num s.now at (if_bit (eqb (m / 2 % 2) 1) own (known_of 2 512)) 65535 result }
+fn set_field(reader: &mut Reader<'_>, m: u64, own: u16) -> Result<u64, Refusal>
+    ensures same { reader.new.bytes ≡ reader.old.bytes }
+    ensures read { Num (left reader.old) (left reader.new) (if_bit (eqb (m / 2 % 2) 1) own (known_of 2 512)) 65535 result }
 {
     if m / 2 % 2 == 1 {
-        known::<2>(s, at, 512)
+        reader.known::<2>(512)
     } else {
-        Ok((own as u64, at))
+        Ok(own as u64)
     }
 }
 
 // The bits of a spill weight where bit 2 of `m` stands, and 0 elsewhere. Past infinity's bits are NaN's, then those with a sign.
 #[tactic(auto, unfolding(job::specs::Load::spill_bits))]
-fn spill_field(s: &[u8], at: usize, m: u64) -> Result<(u64, usize), Refusal>
-    ensures { Num s.now at (if_bit (eqb (m / 4 % 2) 1) 0 spill_bits) 2139095040 result }
+fn spill_field(reader: &mut Reader<'_>, m: u64) -> Result<u64, Refusal>
+    ensures same { reader.new.bytes ≡ reader.old.bytes }
+    ensures read { Num (left reader.old) (left reader.new) (if_bit (eqb (m / 4 % 2) 1) 0 spill_bits) 2139095040 result }
 {
     if m / 4 % 2 != 1 {
-        return Ok((0, at));
+        return Ok(0);
     }
-    let (v, next) = little::<4>(s, at)?;
+    let v = reader.little::<4>()?;
     if 0x7F80_0000 < v {
         return Err(Refusal::BadWeight);
     }
-    Ok((v, next))
+    Ok(v)
 }
 
 // The class is absent, and there is none.
@@ -104,15 +109,11 @@ fn no_class(m: u64, classes: u64) -> bool
 
 // What stands before the hints of the virtual register `n`.
 #[tactic(auto, unfolding(job::specs::Load::virt_reg_fields))]
-pub fn virt_fields(
-    s: &[u8],
-    at: usize,
-    classes: u8,
-    n: u16,
-) -> Result<(VirtRegFields, usize), Refusal>
-    ensures { read_view s.now result ≡ virt_reg_fields classes n (drop at s.now) }
+pub fn virt_fields(reader: &mut Reader<'_>, classes: u8, n: u16) -> Result<VirtRegFields, Refusal>
+    ensures same { reader.new.bytes ≡ reader.old.bytes }
+    ensures read { read_view (left reader.new) result ≡ virt_reg_fields classes n (left reader.old) }
 {
-    let (m, at1) = little::<1>(s, at)?;
+    let m = reader.little::<1>()?;
     if 64 <= m {
         return Err(Refusal::UnfitMap);
     }
@@ -122,10 +123,10 @@ pub fn virt_fields(
     if no_class(m, classes as u64) {
         return Err(Refusal::UnknownNumber);
     }
-    let (c, at2) = class_field(s, at1, m, classes as u64)?;
-    let (t, at3) = set_field(s, at2, m, n)?;
-    let (w, at4) = spill_field(s, at3, m)?;
-    let (z, next) = little_if::<4>(s, at4, m / 8 % 2 == 1)?;
+    let c = class_field(reader, m, classes as u64)?;
+    let t = set_field(reader, m, n)?;
+    let w = spill_field(reader, m)?;
+    let z = reader.little_if::<4>(m / 8 % 2 == 1)?;
     let fields = VirtRegFields {
         map: m as u8,
         class: c as u8,
@@ -133,5 +134,5 @@ pub fn virt_fields(
         spill_weight: f32::from_bits(w as u32),
         size: z as u32,
     };
-    Ok((fields, next))
+    Ok(fields)
 }

@@ -42,6 +42,11 @@ probe_back : (p : Maybe (ℕ × ℕ)) → probe_of (range_of p) ≡ p
 probe_back None = refl
 probe_back (Some (a, b)) = refl
 
+-- the answer of the last fields, and the position after them
+abbrev pub placed : ℕ → Result (JobHeader × TableSizes) Refusal → Result (JobHeader × TableSizes × ℕ) Refusal
+placed at (Ok (d, z)) = Ok (d, z, at)
+placed at (Err r) = Err r
+
 abbrev pub job_of : List ℕ → List (List ℕ) → List Entry → List VirtReg → Option ValueSegment → ℕ → Job
 job_of rs cs es vs p b = record { regs = rs; classes = cs; fixed = es; virt_regs = vs; probe = p; budget = b }
 
@@ -75,19 +80,18 @@ module _ {t : FirstTables} {rs : List ℕ} {cs : List (List ℕ)} {es : List Ent
 
     -- the whole answers as its last fields do
     pub job_out :
-        (s : List ℕ) (at : ℕ) {v g : ℕ} {p : Parsed Job} (r : Result (JobHeader × TableSizes × ℕ) Refusal) {stored : Job → Type 0}
-        → l₁ ≡ drop at s
+        (s : List ℕ) (at : ℕ) {v g : ℕ} {p : Parsed Job} (r : Result (JobHeader × TableSizes) Refusal) {stored : Job → Type 0}
         → p ≡ rest_of t.map rs cs es l
         → length vs ≡ v
         → length (segments_of_all vs) ≡ g
         → ((q : Option ValueSegment) (b : ℕ) → stored (job_of rs cs es vs q b))
-        → LastOut s at t v g r
-        → JobOut s p r stored
-    job_out s at (Err n) i w a c k o = record { parts = w ∙ rest_last ∙ rw (i, o) }
-    job_out s at (Ok (d, y, next)) i w a c k o = record {
+        → LastOut l₁ (drop at s) t v g r
+        → JobOut s p (placed at r) stored
+    job_out s at (Err n) w a c k o = record { parts = w ∙ rest_last ∙ rw o }
+    job_out s at (Ok (d, y)) w a c k o = record {
       parts = (
         job_of rs cs es vs (range_of d.probe) d.budget,
-        w ∙ rest_last ∙ rw (i, o.0),
+        w ∙ rest_last ∙ rw o.0,
         o.1 ∙ header d a,
         rw o.2 (record { few_class_regs = z.few_class_regs; fixed = z.fixed; segments = c }),
         k (range_of d.probe) d.budget,
@@ -96,22 +100,22 @@ module _ {t : FirstTables} {rs : List ℕ} {cs : List (List ℕ)} {es : List Ent
 
 -- ---- from what the first tables and the virtual registers answered
 
-module _ (s : List ℕ) (at : ℕ) {p : Parsed Job} {t : FirstTables} {rs : List ℕ → Type 0} {cs : List (List ℕ) → Type 0} {es : List Entry → Type 0} (w : FirstOut s p (Ok (t, at)) rs cs es) where
-  pub virts_refused : {e : Refusal} {stored : Job → Type 0} → table_of (bit 3 t.map) 2 512 (virt_reg_after t.regs t.classes) (drop at s) ≡ refused (number_of e) → JobOut s p (Err e) stored
-  virts_refused e = record { parts = w.3 ∙ virts_refuse w.4 (drop at s) e }
+module _ (l : List ℕ) {p : Parsed Job} {t : FirstTables} {rs : List ℕ → Type 0} {cs : List (List ℕ) → Type 0} {es : List Entry → Type 0} (w : FirstOut l p (Ok t) rs cs es) where
+  pub virts_refused : {s : List ℕ} {e : Refusal} {stored : Job → Type 0} → table_of (bit 3 t.map) 2 512 (virt_reg_after t.regs t.classes) l ≡ refused (number_of e) → JobOut s p (Err e) stored
+  virts_refused e = record { parts = w.3 ∙ virts_refuse w.4 l e }
 
 -- B is as lent, B₁ as the first tables leave it, and B' as the virtual registers do
 pub all_read :
-    (s : List ℕ) (at : ℕ) {p : Parsed Job} {t : FirstTables} {es : List Entry → Type 0} (B B₁ B' : JobSlices)
-    → FirstOut s p (Ok (t, at)) (λ rs. Stored (λ x. x) B.j64 0 rs B₁.j64) (ClassesAt B.j16 B.j8 B₁.j16 B₁.j8) es
+    (l l₁ : List ℕ) {p : Parsed Job} {t : FirstTables} {es : List Entry → Type 0} (B B₁ B' : JobSlices)
+    → FirstOut l p (Ok t) (λ rs. Stored (λ x. x) B.j64 0 rs B₁.j64) (ClassesAt B.j16 B.j8 B₁.j16 B₁.j8) es
     → (B₁.j32 ≡ B.j32) × (B₁.jf ≡ B.jf)
     → B'.j64 ≡ B₁.j64
-    → (next : ℕ) {v n g : ℕ} (r : Result (JobHeader × TableSizes × ℕ) Refusal)
-    → TableOut s (table_of (bit 3 t.map) 2 512 (virt_reg_after t.regs t.classes) (drop at s)) (Ok (v, n, g, next)) (VirtsIn B₁ B')
-    → LastOut s next t v g r
-    → JobOut s p r (JobAt B B' es)
-all_read s at B B₁ B' w k m next r x o =
+    → (s : List ℕ) (at : ℕ) {v n g : ℕ} (r : Result (JobHeader × TableSizes) Refusal)
+    → TableOut l₁ (table_of (bit 3 t.map) 2 512 (virt_reg_after t.regs t.classes) l) (Ok (v, n, g)) (VirtsIn B₁ B')
+    → LastOut l₁ (drop at s) t v g r
+    → JobOut s p (placed at r) (JobAt B B' es)
+all_read l l₁ B B₁ B' w k m s at r x o =
     let eh = w.6.starts.is ∙ ap (λ (l : List ℕ). sets B.j16 0 l) (map-id (starts_from length 0 w.1)) in
     let eb = w.6.members.is ∙ ap (λ (l : List ℕ). sets B.j8 0 l) (map-id (all_members w.1)) in
-    job_out w.4 (drop at s) x.1 s next r refl w.3 x.2 x.4
+    job_out w.4 l x.1 s at r w.3 x.2 x.4
     (λ q b. record { regs = m ∙ w.5.is ∙ ap (λ (l : List ℕ). sets B.j64 0 l) (map-id w.0); virt_regs = rw (k.0, eh, eb, k.1) at x.7; reserved = w.7 }) o

@@ -1,5 +1,5 @@
 -- What the reader of the probe range promises, in the terms of the parsers of Load.antt. Assumes nothing.
-use Rattle.std.specs.Prelude.{ℕ, List, Bool, drop}
+use Rattle.std.specs.Prelude.{ℕ, List, Bool}
 use Rattle.std.proofs.Math.Option.{Option, none, some}
 use Rattle.reg_matrix.specs.Refused.{number_of}
 use Rattle.reg_matrix.specs.declared.Refusal.{Refusal}
@@ -15,6 +15,6 @@ abbrev pub range_of : Maybe (ℕ × ℕ) → Option ValueSegment
 range_of None = none
 range_of (Some (a, b)) = some (record { from = a; to = b; value = 0 })
 
-abbrev pub probe_view : List ℕ → Result (Maybe (ℕ × ℕ) × ℕ) Refusal → Parsed (Option ValueSegment)
-probe_view s (Ok (p, at)) = parsed (range_of p) (drop at s)
-probe_view s (Err r) = refused (number_of r)
+abbrev pub probe_view : List ℕ → Result (Maybe (ℕ × ℕ)) Refusal → Parsed (Option ValueSegment)
+probe_view l (Ok p) = parsed (range_of p) l
+probe_view l (Err r) = refused (number_of r)

@@ -55,10 +55,10 @@ pub record FirstSizes (t : FirstTables) (rs : List ℕ) (cs : List (List ℕ)) (
   pub few_class_regs : length (all_members cs) ≤ 1024
   pub fixed : length es ≡ t.fixed
 
-abbrev pub FirstOut : List ℕ → Parsed Job → Result (FirstTables × ℕ) Refusal → (List ℕ → Type 0) → (List (List ℕ) → Type 0) → (List Entry → Type 0) → Type 0
-FirstOut s p (Err r) regs classes fixed = p ≡ refused (number_of r)
-FirstOut s p (Ok (t, at)) regs classes fixed =
-    (rs : List ℕ) × (cs : List (List ℕ)) × (es : List Entry) × (p ≡ rest_of t.map rs cs es (drop at s)) × FirstSizes t rs cs es × regs rs × classes cs × fixed es
+abbrev pub FirstOut : List ℕ → Parsed Job → Result FirstTables Refusal → (List ℕ → Type 0) → (List (List ℕ) → Type 0) → (List Entry → Type 0) → Type 0
+FirstOut l p (Err r) regs classes fixed = p ≡ refused (number_of r)
+FirstOut l p (Ok t) regs classes fixed =
+    (rs : List ℕ) × (cs : List (List ℕ)) × (es : List Entry) × (p ≡ rest_of t.map rs cs es l) × FirstSizes t rs cs es × regs rs × classes cs × fixed es
 
 -- ---- the last fields
 
@@ -69,9 +69,10 @@ last_of m = do
   b ← if_bit (bit 5 m) 100_000 (little 4)
   done (p, b)
 
-abbrev pub LastOut : List ℕ → ℕ → FirstTables → ℕ → ℕ → Result (JobHeader × TableSizes × ℕ) Refusal → Type 0
-LastOut s at t v g (Err r) = last_of t.map (drop at s) ≡ refused (number_of r)
-LastOut s at t v g (Ok (d, z, next)) =
-    (last_of t.map (drop at s) ≡ parsed (range_of d.probe, d.budget) (drop next s))
+-- of l, after which l' is left
+abbrev pub LastOut : List ℕ → List ℕ → FirstTables → ℕ → ℕ → Result (JobHeader × TableSizes) Refusal → Type 0
+LastOut l l' t v g (Err r) = last_of t.map l ≡ refused (number_of r)
+LastOut l l' t v g (Ok (d, z)) =
+    (last_of t.map l ≡ parsed (range_of d.probe, d.budget) l')
     × (d ≡ record { regs = t.regs; classes = t.classes; virt_regs = v; probe = d.probe; budget = d.budget })
     × (z ≡ record { fixed = t.fixed; segments = g })

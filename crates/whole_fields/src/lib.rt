@@ -1,11 +1,11 @@
 // Reading a job: all its fields, in byte order, from bytes into lent numbers, as the parsers of the crate job say. The tables are read in the crates
-// reader and fields.
+// reg_reader, fixed_reader and fields.
 #![tactic(auto)]
 
-ghost use Rattle.std.specs.Prelude.{◌≡◌, drop};
+ghost use Rattle.std.specs.Prelude.{◌≡◌};
 ghost use Rattle.job.specs.Load.{job_fields};
 ghost use Rattle.job_parts.specs.Lent.{slices_in, SameJob};
-ghost use Rattle.reader.specs.Read.{Field, Stored, ClassesAt};
+ghost use Rattle.reader.specs.Read.{left, Field, Stored, ClassesAt};
 ghost use Rattle.fixed_reader.specs.Fixed.{FixedIn, SameFixed};
 ghost use Rattle.whole_fields.specs.Probe.{probe_view, probe_field};
 ghost use Rattle.whole_fields.specs.Whole.{FirstOut, LastOut, JobOut, JobAt};
@@ -14,9 +14,10 @@ use fields::virt::virt_table;
 use fixed_reader::{LentFixed, fixed_table};
 use job::JobHeader;
 use job_parts::lent_job::LentJobMut;
-use reader::read::little;
+use reader::read::Reader;
 use reg_matrix::Refusal;
 use reg_reader::{class_table, reg_table};
+use virt_reader::range;
 
 // How many fixed reservations and segments a job has, which the header does not count.
 #[derive(Clone, Copy, PartialEq, Eq, Debug)]
@@ -26,25 +27,15 @@ pub struct TableSizes {
 }
 
 // The probe range where its bit stands.
-#[tactic(auto, unfolding(job::specs::Load::range))]
-fn probe_range(s: &[u8], at: usize, stands: bool) -> Result<(Option<(u32, u32)>, usize), Refusal>
-    ensures { probe_view s.now result ≡ probe_field stands (drop at s.now) }
+fn probe_range(reader: &mut Reader<'_>, stands: bool) -> Result<Option<(u32, u32)>, Refusal>
+    ensures same { reader.new.bytes ≡ reader.old.bytes }
+    ensures read { probe_view (left reader.new) result ≡ probe_field stands (left reader.old) }
 {
     if !stands {
-        return Ok((None, at));
+        return Ok(None);
     }
-    let (a, at1) = little::<4>(s, at)?;
-    let (b, next) = little::<4>(s, at1)?;
-    if b <= a {
-        return Err(Refusal::Empty);
-    }
-    if a % 4 == 3 {
-        return Err(Refusal::BadPoint);
-    }
-    if b % 4 == 3 {
-        return Err(Refusal::BadPoint);
-    }
-    Ok((Some((a as u32, b as u32)), next))
+    let r = range(reader, 0, false)?;
+    Ok(Some((r.from, r.to)))
 }
 
 // The header's map, and how many registers, classes and fixed reservations there are.
@@ -56,57 +47,58 @@ pub struct FirstTables {
     pub fixed: usize,
 }
 
-// The tables before the virtual registers, stored from place 0 on. Answers with the position after them.
+// The tables before the virtual registers, stored from place 0 on.
 #[tactic(auto, unfolding(job::specs::Load::job_fields))]
 fn first_tables(
-    s: &[u8],
+    reader: &mut Reader<'_>,
     job: &mut LentJobMut<'_>,
     fixed: &mut LentFixed<'_>,
-) -> Result<(FirstTables, usize), Refusal>
-    ensures same { SameJob job.old job.new × SameFixed fixed.old fixed.new }
+) -> Result<FirstTables, Refusal>
+    ensures same { SameJob job.old job.new × SameFixed fixed.old fixed.new × (reader.new.bytes ≡ reader.old.bytes) }
     ensures others { (job.new.j32.now ≡ job.old.j32.now) × (job.new.jf.now ≡ job.old.jf.now) }
-    ensures read { FirstOut s.now (job_fields s.now) result (λ rs. Stored (λ x. x) job.old.j64.now 0 rs job.new.j64.now) (ClassesAt job.old.j16.now job.old.j8.now job.new.j16.now job.new.j8.now) (FixedIn fixed.old fixed.new) }
+    ensures read { FirstOut (left reader.new) (job_fields (left reader.old)) result (λ rs. Stored (λ x. x) job.old.j64.now 0 rs job.new.j64.now) (ClassesAt job.old.j16.now job.old.j8.now job.new.j16.now job.new.j8.now) (FixedIn fixed.old fixed.new) }
 {
-    let (m, at1) = little::<1>(s, 0)?;
+    let m = reader.little::<1>()?;
     if 64 <= m {
         return Err(Refusal::UnfitMap);
     }
-    let (rn, at2) = reg_table(s, at1, m / 1 % 2 == 1, job.j64)?;
-    let (cn, _, at3) = class_table(s, at2, m / 2 % 2 == 1, rn as u8, job.j16, job.j8)?;
-    let (en, next) = fixed_table(s, at3, m / 4 % 2 == 1, fixed)?;
+    let rn = reg_table(reader, m / 1 % 2 == 1, job.j64)?;
+    let (cn, _) = class_table(reader, m / 2 % 2 == 1, rn as u8, job.j16, job.j8)?;
+    let en = fixed_table(reader, m / 4 % 2 == 1, fixed)?;
     let tables = FirstTables {
         map: m as u8,
         regs: rn as u8,
         classes: cn,
         fixed: en as usize,
     };
-    Ok((tables, next))
+    Ok(tables)
 }
 
 // The budget where its bit stands.
-fn budget(s: &[u8], at: usize, stands: bool) -> Result<(u64, usize), Refusal>
-    ensures { Field s.now at stands 4 100000 result }
+fn budget(reader: &mut Reader<'_>, stands: bool) -> Result<u64, Refusal>
+    ensures same { reader.new.bytes ≡ reader.old.bytes }
+    ensures read { Field (left reader.old) (left reader.new) stands 4 100000 result }
 {
     if stands {
-        little::<4>(s, at)
+        reader.little::<4>()
     } else {
-        Ok((100_000, at))
+        Ok(100_000)
     }
 }
 
-// The probe range and the budget, and with them what goes by value of the job, and the position after it.
+// The probe range and the budget, and with them what goes by value of the job.
 #[tactic(auto, unfolding(crate::specs::Whole::last_of))]
 fn last_fields(
-    s: &[u8],
-    at: usize,
+    reader: &mut Reader<'_>,
     t: FirstTables,
     vn: u16,
     gn: u64,
-) -> Result<(JobHeader, TableSizes, usize), Refusal>
-    ensures { LastOut s.now at t vn gn result }
+) -> Result<(JobHeader, TableSizes), Refusal>
+    ensures same { reader.new.bytes ≡ reader.old.bytes }
+    ensures read { LastOut (left reader.old) (left reader.new) t vn gn result }
 {
-    let (p, at6) = probe_range(s, at, t.map / 16 % 2 == 1)?;
-    let (b, next) = budget(s, at6, t.map / 32 % 2 == 1)?;
+    let p = probe_range(reader, t.map / 16 % 2 == 1)?;
+    let b = budget(reader, t.map / 32 % 2 == 1)?;
     let header = JobHeader {
         regs: t.regs,
         classes: t.classes,
@@ -118,7 +110,7 @@ fn last_fields(
         fixed: t.fixed,
         segments: gn as usize,
     };
-    Ok((header, sizes, next))
+    Ok((header, sizes))
 }
 
 // All fields of a job: what goes by value of it, the sizes of its tables, and the position after it. What it holds is stored in its slices, where
@@ -131,8 +123,10 @@ pub fn job_fields(
     ensures same { SameJob job.old job.new × SameFixed fixed.old fixed.new }
     ensures read { JobOut s.now (job_fields s.now) result (JobAt (slices_in job.old) (slices_in job.new) (FixedIn fixed.old fixed.new)) }
 {
-    let (t, at) = first_tables(s, job, fixed)?;
+    let mut reader = Reader { bytes: s, at: 0 };
+    let t = first_tables(&mut reader, job, fixed)?;
     let stands = t.map / 8 % 2 == 1;
-    let (vn, _, gn, next) = virt_table(s, at, stands, t.regs, t.classes, job)?;
-    last_fields(s, next, t, vn, gn)
+    let (vn, _, gn) = virt_table(&mut reader, stands, t.regs, t.classes, job)?;
+    let (header, sizes) = last_fields(&mut reader, t, vn, gn)?;
+    Ok((header, sizes, reader.at))
 }

@@ -10,12 +10,12 @@ use Rattle.reader.proofs.Tables.{ends_none, ends_more, after_ends}
 use Rattle.fixed_reader.proofs.reservations.Goals as goal
 
 pub loop-i-init : goal.loop-i-init
-loop-i-init c = ([], begin, ends_none, record { units = none_stored; froms = none_stored; tos = none_stored; uses = none_stored }, record { units = refl; froms = refl; tos = refl; uses = refl })
+loop-i-init c = ([], begin, ends_none, record { units = none_stored; froms = none_stored; tos = none_stored; uses = none_stored }, record { units = refl; froms = refl; tos = refl; uses = refl }, refl)
 
 pub returns-in_err-e-clause-read : goal.returns-in_err-e-clause-read
 returns-in_err-e-clause-read c =
     let p = err_from_is_err_and c.from_residual.result c.from_residual.ensures.1 in
-    rw (p.1, p.2) (stops c.loop-i.invariant.1 c.loop-i-test.true (after_ends c.loop-i.invariant.2 _ ∙ sym c.in_err-e.ensures.view))
+    rw (p.1, p.2) (stops c.loop-i.invariant.1 c.loop-i-test.true (after_ends c.loop-i.invariant.2 _ ∙ sym c.in_err-e.ensures.read.view))
 
 pub loop-i-preserved : goal.loop-i-preserved
 loop-i-preserved c =
@@ -23,8 +23,8 @@ loop-i-preserved c =
     let n : 0 + length v.0 ≡ c.loop-i.i = omega (arith, v.1.read) in
     let e = c.in_ok-e.e in (
       v.0 ++ (e ∷ []),
-      more v.1 c.loop-i-test.true (after_ends v.2 _ ∙ sym c.in_ok-e.ensures.view),
-      ends_more e v.2 c.in_ok-e.ensures.unit c.put.ensures,
+      more v.1 c.loop-i-test.true (after_ends v.2 _ ∙ sym c.in_ok-e.ensures.read.view),
+      ends_more e v.2 c.in_ok-e.ensures.read.unit c.put.ensures,
       record {
         units = more_stored v.3.units e n c.put-in-loop-i.ensures;
         froms = more_stored v.3.froms e n c.put-in-loop-i-2.ensures;
@@ -32,6 +32,7 @@ loop-i-preserved c =
         uses = more_stored v.3.uses e n (c.put-in-loop-i-4.ensures ∙ rw c.use_number.ensures);
       },
       record { units = v.4.units; froms = v.4.froms; tos = v.4.tos; uses = v.4.uses },
+      c.reservation.ensures.same ∙ v.5,
     )
 
 pub returns-clause-read : goal.returns-clause-read

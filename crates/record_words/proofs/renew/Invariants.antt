@@ -1,5 +1,7 @@
+use mathlib.Core.List.{◌++◌}
+use lib.ListN.{drop}
 use Rattle.record_words.proofs.WordLaws.{Renewing}
 use Rattle.record_words.proofs.renew.Given as goal
 
-abbrev pub invariant-loop-i : goal.invariant-loop-i
-invariant-loop-i l = Renewing l.initial.words l.words l.i
+abbrev pub invariant-loop-word : goal.invariant-loop-word
+invariant-loop-word l = Renewing l.fn.words (l.word-items ++ drop l.n l.fn.words) l.word-index

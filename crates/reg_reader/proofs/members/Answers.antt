@@ -1,6 +1,6 @@
 use Prim.Native.Nat.{◌+◌}
 use native.Mathlib.Omega.{arith}
-use mathlib.Core.Path.{◌≡◌, sym}
+use mathlib.Core.Path.{◌≡◌, sym, ◌∙◌}
 use mathlib.Core.List.{[], ◌∷◌, ◌++◌}
 use lib.ListN.{length}
 use Rattle.std.proofs.lemmas.Result.{err_from_is_err_and}
@@ -8,17 +8,17 @@ use Rattle.reader.proofs.Reading.{more, stops, ends}
 use Rattle.reader.proofs.Stores.{more_stored}
 use Rattle.reg_reader.proofs.members.Goals as goal
 
-pub returns-in_err-r : goal.returns-in_err-r
-returns-in_err-r c =
+pub returns-in_err-r-clause-read : goal.returns-in_err-r-clause-read
+returns-in_err-r-clause-read c =
     let p = err_from_is_err_and c.from_residual.result c.from_residual.ensures.1 in
-    rw (p.1, p.2) (stops c.loop-i.invariant.1 c.loop-i-test.true (sym c.in_err-r.ensures.view))
+    rw (p.1, p.2) (stops c.loop-i.invariant.1 c.loop-i-test.true (sym c.in_err-r.ensures.read.view))
 
 pub loop-i-preserved : goal.loop-i-preserved
 loop-i-preserved c =
     let v = c.loop-i.invariant in
     let x = c.in_ok-r.r in
     let n : c.args.g + length v.0 ≡ c.args.g + c.loop-i.i = omega (arith, v.1.read) in
-    (v.0 ++ (x ∷ []), more v.1 c.loop-i-test.true (sym c.in_ok-r.ensures.view), more_stored v.2 x n c.put.ensures)
+    (v.0 ++ (x ∷ []), more v.1 c.loop-i-test.true (sym c.in_ok-r.ensures.read.view), more_stored v.2 x n c.put.ensures, c.known.ensures.same ∙ v.3)
 
-pub returns : goal.returns
-returns c = (c.loop-i.invariant.0, ends c.loop-i.invariant.1 c.loop-i-test.false, c.loop-i.invariant.2)
+pub returns-clause-read : goal.returns-clause-read
+returns-clause-read c = (c.loop-i.invariant.0, ends c.loop-i.invariant.1 c.loop-i-test.false, c.loop-i.invariant.2)

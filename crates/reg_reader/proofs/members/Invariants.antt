@@ -1,11 +1,12 @@
 -- The invariant: the numbers read so far are stored, and the rest from here is the rest of the whole.
 use Prim.Native.Nat.{ℕ}
+use mathlib.Core.Path.{◌≡◌}
 use mathlib.Core.List.{List}
 use Rattle.job.specs.Load.{known}
-use Rattle.reader.specs.Read.{Stored}
+use Rattle.reader.specs.Read.{left, Stored}
 use Rattle.reader.proofs.Reading.{Reading}
 use Rattle.reg_reader.proofs.members.Given as goal
 
 abbrev pub invariant-loop-i : goal.invariant-loop-i
 invariant-loop-i l =
-    (before : List ℕ) × Reading l.s (λ before. known 1 l.regs) l.count l.start l.i l.at before × Stored (λ (x : ℕ). x) l.initial.list l.g before l.list
+    (before : List ℕ) × Reading (λ before. known 1 l.regs) l.count l.i (left l.initial.reader) (left l.reader) before × Stored (λ (x : ℕ). x) l.initial.list l.g before l.list × (l.reader.bytes ≡ l.initial.reader.bytes)

@@ -6,8 +6,8 @@ use Rattle.reader.proofs.Reading.{each_length}
 use Rattle.job.specs.Load.{hints, hint}
 use Rattle.fields.proofs.virt.hint_table.Goals as goal
 
-pub returns : goal.returns
+pub returns-clause-read : goal.returns-clause-read
 unfolding hints
-returns c =
-    let w = c.in_ok-next.ensures in
-    (w.0, rw (eq-eqb _ _ c.if-m-ne1.false, ← c.in_ok-k.ensures.view) w.1, each_length (λ before. hint c.args.regs) c.in_ok-k.k [] _ w.1 ∙ omega arith, c.in_ok-k.ensures.small, w.2)
+returns-clause-read c =
+    let w = c.in_ok-hints.ensures.read in
+    (w.0, rw (eq-eqb _ _ c.if-m-ne1.false, ← c.in_ok-k.ensures.read.view) w.1, each_length (λ before. hint c.args.regs) c.in_ok-k.k [] _ w.1 ∙ omega arith, c.in_ok-k.ensures.read.small, w.2)

@@ -7,7 +7,7 @@ use Rattle.fields.proofs.Turns.{virts_begun, virts_more}
 use Rattle.fields.proofs.virt.virt_regs.Goals as goal
 
 pub loop-i-init : goal.loop-i-init
-loop-i-init c = (virts_begun _ _ _ _ _ _ _ _ _, record { j64 = refl; j32 = refl; j16 = refl; j8 = refl; jf = refl }, refl)
+loop-i-init c = (virts_begun _ _ _ _ _ _ _ _, record { j64 = refl; j32 = refl; j16 = refl; j8 = refl; jf = refl }, refl, refl)
 
 pub returns-in_err-f-clause-read : goal.returns-in_err-f-clause-read
 unfolding virt_reg_after
@@ -23,9 +23,10 @@ loop-i-preserved c =
     let v = c.loop-i.invariant in
     let a = c.in_ok-f.ensures in
     let b = c.put_fields.ensures in (
-      virts_more _ _ _ _ _ _ _ _ _ _ _ _ _ v.0 c.loop-i-test.true c.requires a.read b.stored c.put.ensures c.put-in-loop-i.ensures,
-      record { j64 = b.same.j64 ∙ a.same.j64 ∙ v.1.j64; j32 = b.same.j32 ∙ a.same.j32 ∙ v.1.j32; j16 = b.same.j16 ∙ a.same.j16 ∙ v.1.j16; j8 = b.same.j8 ∙ a.same.j8 ∙ v.1.j8; jf = b.same.jf ∙ a.same.jf ∙ v.1.jf },
+      virts_more _ _ _ _ _ _ _ _ _ _ _ _ v.0 c.loop-i-test.true c.requires a.read b.stored c.put.ensures c.put-in-loop-i.ensures,
+      record { j64 = b.same.j64 ∙ a.same.0.j64 ∙ v.1.j64; j32 = b.same.j32 ∙ a.same.0.j32 ∙ v.1.j32; j16 = b.same.j16 ∙ a.same.0.j16 ∙ v.1.j16; j8 = b.same.j8 ∙ a.same.0.j8 ∙ v.1.j8; jf = b.same.jf ∙ a.same.0.jf ∙ v.1.jf },
       b.maps ∙ a.maps ∙ v.2,
+      a.same.1 ∙ v.3,
     )
 
 pub returns-clause-read : goal.returns-clause-read

@@ -9,7 +9,7 @@ use Rattle.job_tests.proofs.Places.{fold_more, fold_end}
 use Rattle.job_stores.proofs.reserve.reserve_all.Goals as goal
 
 pub loop-i-preserved : goal.loop-i-preserved
-loop-i-preserved c = (let a = c.args in let v = c.loop-i in ap (λ (l : Lain). foldl (λ l k. reserving (get_or a.fixed.now.units.now k 0) (get_or a.fixed.now.froms.now k 0) (get_or a.fixed.now.tos.now k 0) (get_or a.fixed.now.uses.now k 0) l) l (count (v.i + 1) (a.n - (v.i + 1)))) (c.reserve_fixed.ensures.after ∙ rw (c.at.ensures, c.at-in-loop-i.ensures, c.at-in-loop-i-2.ensures, c.at-in-loop-i-3.ensures)) ∙ sym (fold_more _ a.n v.i _ c.loop-i-test.true) ∙ v.invariant.0, search rules, c.reserve_fixed.auto.uses ∙ c.loop-i.invariant.2)
+loop-i-preserved c = (let a = c.args in let v = c.loop-i in ap (λ (l : Lain). foldl (λ l k. reserving (get_or a.fixed.units.now k 0) (get_or a.fixed.froms.now k 0) (get_or a.fixed.tos.now k 0) (get_or a.fixed.uses.now k 0) l) l (count (v.i + 1) (a.n - (v.i + 1)))) (c.reserve_fixed.ensures.after ∙ rw (c.at.ensures, c.at-in-loop-i.ensures, c.at-in-loop-i-2.ensures, c.at-in-loop-i-3.ensures)) ∙ sym (fold_more _ a.n v.i _ c.loop-i-test.true) ∙ v.invariant.0, search rules, c.reserve_fixed.auto.uses ∙ c.loop-i.invariant.2)
 
 pub returns-clause-after : goal.returns-clause-after
 unfolding reserving_all cleared

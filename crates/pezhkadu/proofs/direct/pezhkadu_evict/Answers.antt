@@ -13,8 +13,8 @@ returns-then-answer-lt1-clause-called c = evict_answer_short _ _ _ _ _ _ (sym c.
 pub returns-in_err-after-clause-called : goal.returns-in_err-after-clause-called
 returns-in_err-after-clause-called c =
     let p = err_from_is_err_and c.from_residual.result c.from_residual.ensures.1 in
-    rw (p.1, p.2) (evict_refused _ _ _ _ _ _ (sym c.short_words.ensures ∙ c.if-short_words.false) c.if-answer-lt1.false _ _ _ _ _ _ c.header_of-known.ensures c.cut-v.ensures (c.in_err-after.ensures.called _ c.record_at-a.ensures) (some_number _))
+    rw (p.1, p.2) (evict_refused _ _ _ _ _ _ (sym c.short_words.ensures ∙ c.if-short_words.false) c.if-answer-lt1.false _ _ _ _ _ _ c.header_of.ensures c.cut-v.ensures (c.in_err-after.ensures.called _ c.record_at-a.ensures) (some_number _))
 
 pub returns-clause-called : goal.returns-clause-called
 returns-clause-called c =
-    evict_done _ _ _ _ _ _ (sym c.short_words.ensures ∙ c.if-short_words.false) c.if-answer-lt1.false _ _ _ _ _ _ c.header_of-known.ensures c.cut-v.ensures (c.in_ok-after.ensures.called _ c.record_at-a.ensures) refl _ c.put_record.ensures _ c.put.ensures
+    evict_done _ _ _ _ _ _ (sym c.short_words.ensures ∙ c.if-short_words.false) c.if-answer-lt1.false _ _ _ _ _ _ c.header_of.ensures c.cut-v.ensures (c.in_ok-after.ensures.called _ c.record_at-a.ensures) refl _ c.put_record.ensures _ c.put.ensures

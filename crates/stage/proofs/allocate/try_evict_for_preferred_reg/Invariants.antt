@@ -1,4 +1,4 @@
--- The invariant: the search over the hinted candidates from place i on finds what the whole search finds. Assumes nothing.
+-- The invariant: the search over the hinted candidates from its place on finds what the whole search finds. Assumes nothing.
 use mathlib.Core.Path.{◌≡◌}
 use lib.ListN.{drop}
 use Rattle.stage.specs.Searching.{lent_for}
@@ -7,5 +7,5 @@ use Rattle.record_words.specs.Words.{held_in}
 use Rattle.stage.specs.AllocateWalk.{prefer_in}
 use Rattle.stage.proofs.allocate.try_evict_for_preferred_reg.Given as goal
 
-abbrev pub invariant-loop-place : goal.invariant-loop-place
-invariant-loop-place l = prefer_in (lent_for l.search) l.search.maps.now (held_in l.search.words.now) l.search.spills.now l.clear (drop l.place (listed l.hinted)) ≡ prefer_in (lent_for l.search) l.search.maps.now (held_in l.search.words.now) l.search.spills.now l.clear (listed l.hinted)
+abbrev pub invariant-loop-c : goal.invariant-loop-c
+invariant-loop-c l = prefer_in (lent_for l.search) l.search.maps.now (held_in l.search.words.now) l.search.spills.now l.clear (drop l.c-index (listed l.hinted)) ≡ prefer_in (lent_for l.search) l.search.maps.now (held_in l.search.words.now) l.search.spills.now l.clear (listed l.hinted)

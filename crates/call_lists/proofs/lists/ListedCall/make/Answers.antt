@@ -27,4 +27,4 @@ pub returns-in_ok-after-in-Evict-clause-answered : goal.returns-in_ok-after-in-E
 returns-in_ok-after-in-Evict-clause-answered c = rw c.in-Evict.is (evicted_so _ _ _ _ _ _ _ _ _ c.in_ok-after-in-Evict.ensures.called)
 
 pub returns-in_ok-after-in-Run-clause-answered : goal.returns-in_ok-after-in-Run-clause-answered
-returns-in_ok-after-in-Run-clause-answered c = rw (c.in-Run.is, c.ending_number.ensures) (ran_so _ _ _ _ _ _ _ _ _ _ c.in_ok-after-in-Run.ensures.called)
+returns-in_ok-after-in-Run-clause-answered c = rw c.in-Run.is (ran_so _ _ _ _ _ _ _ _ _ _ c.in_ok-after-in-Run.ensures.called)

@@ -7,4 +7,4 @@ use Rattle.calls.proofs.DirectLaws.{place_answered}
 use Rattle.calls.proofs.direct.Placement.refusal.Goals as goal
 
 pub returns : goal.returns
-returns c = place_answered _ (slices_of c.args.job) _ _ _ (state_in c.args.state.now c.args.last.now) _ _ c.short_buffers-short.ensures _ (number_is _ ∙ ap number_of c.place_refusal.ensures ∙ rw (c.as_table.ensures.0, c.as_table.ensures.1))
+returns c = place_answered _ (slices_of c.args.loaded.job) _ _ _ (state_in c.args.state.now c.args.last.now) _ _ c.short_buffers-short.ensures _ (number_is _ ∙ ap number_of c.place_refusal.ensures ∙ rw (c.as_table.ensures.0, c.as_table.ensures.1))
