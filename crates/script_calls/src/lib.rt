@@ -9,11 +9,10 @@ ghost use Rattle.script_calls.specs.Calls.{CallTook};
 
 use allocator::Assignment;
 use answers::answer_line;
-use call_lists::lists::ListedCall;
+use call_lists::lists::carry_out_list;
 use job::USES;
 use job_parts::lent_job::LoadedJob;
 use lent::from;
-use narrow::Narrow;
 use records::first_records;
 use script_bytes::input::Input;
 use script_bytes::output::print;
@@ -30,10 +29,11 @@ enum Question {
     IsUnitFree { unit: u64, from: u64, to: u64 },
 }
 
-// What a script has next: a call to make, or a question.
+// What a script has next: a call to make, as the four words that a list of calls has for it, or a question. The words are those of firmware's lists, so
+// that the function that carries out a list serves scripts too, and the replays run it.
 #[derive(Clone, Copy, PartialEq, Eq, Debug)]
 enum Call {
-    Made(ListedCall),
+    Made([u64; 4]),
     Asked(Question),
 }
 
@@ -47,18 +47,18 @@ fn read_arguments(input: &mut Input, kind: u64) -> Option<Call>
 {
     match kind {
         1 => {
-            let v = u16::cut(input.read_number(2)?);
-            let reg = u8::cut(input.read_number(1)?);
-            let weight = u32::cut(input.read_number(4)?);
-            Some(Call::Made(ListedCall::Place(v, reg, weight)))
+            let v = input.read_number(2)?;
+            let reg = input.read_number(1)?;
+            let weight = input.read_number(4)?;
+            Some(Call::Made([1, v, reg, weight]))
         }
         2 => {
-            let v = u16::cut(input.read_number(2)?);
-            Some(Call::Made(ListedCall::Evict(v)))
+            let v = input.read_number(2)?;
+            Some(Call::Made([2, v, 0, 0]))
         }
         3 => {
             let budget = input.read_number(4)?;
-            Some(Call::Made(ListedCall::Run(budget)))
+            Some(Call::Made([3, budget, 0, 0]))
         }
         4 | 5 => {
             let reg = input.read_number(1)?;
@@ -128,9 +128,9 @@ fn print_state(
     print_entries(loaded, state.as_table(), line);
 }
 
-// Makes the call, and prints what it answers and the state afterwards. What returns is the records afterwards.
+// Makes the call of these four words, as a list of one, and prints what it answers and the state afterwards. What returns is the records afterwards.
 fn make(
-    call: ListedCall,
+    list: [u64; 4],
     records: [Assignment; 512],
     loaded: LoadedJob<'_>,
     state: &mut LentState<'_>,
@@ -139,19 +139,18 @@ fn make(
 ) -> [Assignment; 512]
     ensures { SameState state.old state.new }
 {
-    let mut all = records;
-    let length = match call.make(records, loaded, state, last) {
-        Ok(done) => {
-            // tried, and not covered by the check: the array taken straight from the pattern
-            all = done.0;
-            let (word, value) = done.1.numbers();
-            answer_line(line, 0, word, value)
-        }
-        Err(refusal) => answer_line(line, refusal.number(), 0, 0),
+    let mut numbers = [0u64; 3];
+    let done = carry_out_list(records, &list, loaded, state, last, &mut numbers);
+    // not met: three numbers have room for the answer of a list of one call
+    let Ok(made) = done else {
+        return records;
     };
+    // tried, and not covered by the check: the array taken straight from the pattern
+    let after = made.0;
+    let length = answer_line(line, numbers[0], numbers[1], numbers[2]);
     print(line, length);
-    print_state(all, loaded, state, last, line);
-    all
+    print_state(after, loaded, state, last, line);
+    after
 }
 
 impl Question {
