@@ -18,14 +18,14 @@ pub enum Assignment {
 }
 
 // 01, "Candidates": a register to try, with the cost if it is not chosen.
-#[derive(Clone, Copy, PartialEq, Debug)]
+#[derive(Clone, Copy, PartialEq, Debug, Default)]
 pub struct CandidateReg {
     pub reg: u8,
     pub preference_weight: f32,
 }
 
 // 01, "Costs": the sum of the preference weights, and the greatest spill weight, of those whom a candidate would evict. Compared in this order.
-#[derive(Clone, Copy, PartialEq, PartialOrd, Debug)]
+#[derive(Clone, Copy, PartialEq, PartialOrd, Debug, Default)]
 pub struct EvictCost {
     pub preference_weight: f32,
     pub spill_weight: f32,

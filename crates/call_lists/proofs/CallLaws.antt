@@ -103,7 +103,7 @@ module _ (header : JobHeader) (B : JobSlices) (S : StateBuffers) (rs : List Assi
   pub placed_so :
       (v r w n : ℕ) → Placed header B v r w S rs S' rs' n
       → (x : ℕ) → x ≡ cond (eqb n 0) r 0
-      → CallAnswered header B (call_in (sizes_of B S) (Place v r w)) S rs S' rs' n 0 x
+      → CallAnswered header B (call_in (sizes_of B S) (Place (record { v = v; reg = r; weight = w }))) S rs S' rs' n 0 x
   placed_so v r w n p x px =
       record {
         called = p.called;

@@ -1,5 +1,5 @@
 -- Lists of calls: the words of one call, and a loop over them, in which the rest of the list from here is the rest of the whole. Assumes nothing.
-use Prim.Native.Nat.{ℕ, suc, ◌+◌, ◌/◌, ◌≤◌, ◌<◌}
+use Prim.Native.Nat.{ℕ, zero, suc, ◌+◌, ◌*◌, ◌/◌, ◌≤◌, ◌<◌}
 use native.Mathlib.Omega.{arith}
 use mathlib.Core.Path.{◌≡◌, refl, sym, ap, ◌∙◌, subst}
 use mathlib.Core.Logic.{inl, ⊎_elim}
@@ -8,6 +8,8 @@ use mathlib.Core.Bool.{Bool, true, false, cond, ◌||◌}
 use lib.Dec.{T, leb, eqb, leb→le, le→leb, eqb→eq}
 use lib.Ieee.{binary32, of_bits}
 use lib.ListN.{length, get_or, set, drop, length-drop}
+use Rattle.std.specs.Simd.{first_chunks}
+use Rattle.std.proofs.lemmas.List.{get_or-take, get_or-drop}
 use lib.Seq.{sets, drop-cons}
 use borrow.Author.Tests.{lt-ltb, le-ltb}
 use Rattle.std.specs.Prelude.{Option, Some, None}
@@ -91,7 +93,7 @@ by_kind L k n r w cs = rw kind_is (go (eqb k 1) (eqb k 2) (eqb k 3))
         → cond (a || (b || c))
         (cond a (placing L (cut 65535 n) (cut 255 r) (of_bits binary32 (cut 0xFFFF_FFFF w))) (cond b (evicting L (cut 65535 n)) (running L n)) ∷ cs) []
         ≡ calls_by L
-        (cond a (Some (Place (cut 65535 n) (cut 255 r) (cut 0xFFFF_FFFF w))) (cond b (Some (Evict (cut 65535 n))) (cond c (Some (Run n)) None)))
+        (cond a (Some (Place (record { v = cut 65535 n; reg = cut 255 r; weight = cut 0xFFFF_FFFF w }))) (cond b (Some (Evict (cut 65535 n))) (cond c (Some (Run n)) None)))
         cs
     go true b c = refl
     go false true c = refl
@@ -123,11 +125,11 @@ calls_none L (a ∷ b ∷ c ∷ []) e = refl
 calls_none L (a ∷ b ∷ c ∷ d ∷ m) e = by_kind L a b c d (calls_in L m) ∙ ap (λ (o : Option ListedCall). calls_by L o (calls_in L m)) e
 
 module _ (l : List ℕ) (i : ℕ) where
-  pub listed_short : length l < i + 4 → None ≡ listed (drop i l)
+  listed_short : length l < i + 4 → None ≡ listed (drop i l)
   listed_short h = sym (few_words (drop i l) (let e = length-drop i l in omega (arith, e, h)))
 
   -- by the four words
-  pub listed_at : i + 4 ≤ length l → listed_by (get_or l i 0) (get_or l (i + 1) 0) (get_or l (i + 2) 0) (get_or l (i + 3) 0) ≡ listed (drop i l)
+  listed_at : i + 4 ≤ length l → listed_by (get_or l i 0) (get_or l (i + 1) 0) (get_or l (i + 2) 0) (get_or l (i + 3) 0) ≡ listed (drop i l)
   unfolding listed
   listed_at h = rw (four_words l i h) refl
 
@@ -142,8 +144,33 @@ module _ (l : List ℕ) (i : ℕ) where
         ∙ by_kind L (get_or l i 0) (get_or l (i + 1) 0) (get_or l (i + 2) 0) (get_or l (i + 3) 0) (calls_in L (drop (i + 4) l))
         ∙ ap (λ (o : Option ListedCall). calls_by L o (calls_in L (drop (i + 4) l))) (listed_at has_room ∙ e)
 
+-- the words of a list in fours
+four_of : (d : List ℕ) (n : ℕ) (l : List ℕ) (i k : ℕ) → i < n → k < 4 → get_or (get_or (first_chunks 4 n l) i d) k 0 ≡ get_or l (4 * i + k) 0
+four_of d zero l i k h g = absurd (omega (arith, h))
+four_of d (suc n) l zero k h g = let e : k ≡ 4 * 0 + k = omega arith in get_or-take 4 l k 0 g ∙ ap (λ (m : ℕ). get_or l m 0) e
+four_of d (suc n) l (suc i) k h g =
+    let e : 4 + (4 * i + k) ≡ 4 * suc i + k = omega arith in
+    four_of d n (drop 4 l) i k (omega (arith, h)) g ∙ get_or-drop 4 l (4 * i + k) 0 ∙ ap (λ (m : ℕ). get_or l m 0) e
+
+module _ (l : List ℕ) (fours : List (List ℕ)) (e : fours ≡ first_chunks 4 (length l / 4) l) (n : length fours ≡ length l / 4) (i : ℕ) where
+  word : (d : List ℕ) (k : ℕ) → i < length l / 4 → k < 4 → get_or (get_or fours i d) k 0 ≡ get_or l (4 * i + k) 0
+  word d k h g = ap (λ (ws : List (List ℕ)). get_or (get_or ws i d) k 0) e ∙ four_of d (length l / 4) l i k h g
+
+  -- the call of the four words number i
+  pub listed_four :
+      (d : List ℕ) → i < length fours
+      → listed_by (get_or (get_or fours i d) 0 0) (get_or (get_or fours i d) 1 0) (get_or (get_or fours i d) 2 0) (get_or (get_or fours i d) 3 0) ≡ listed (drop (4 * i) l)
+  listed_four d g =
+      let h : i < length l / 4 = omega (arith, n, g) in
+      let z : 4 * i + 0 ≡ 4 * i = omega arith in
+      rw (word d 0 h (omega arith), word d 1 h (omega arith), word d 2 h (omega arith), word d 3 h (omega arith), z) (listed_at l (4 * i) (omega (arith, h)))
+
+  -- behind the last of them there is no call
+  pub listed_none : i ≡ length fours → None ≡ listed (drop (4 * i) l)
+  listed_none q = listed_short l (4 * i) (omega (arith, n, q))
+
 lent_to_lem : (L : List ℕ) (c : ListedCall) → lent_to (call_in L c) ≡ L
-lent_to_lem L (Place v r w) = refl
+lent_to_lem L (Place asked) = refl
 lent_to_lem L (Evict v) = refl
 lent_to_lem L (Run b) = refl
 
@@ -159,8 +186,6 @@ pub record Going (j : Job) (s : State) (t : StateBuffers) (L list : List ℕ) (f
 
 pub record ListTo (header : JobHeader) (B : JobSlices) (list : List ℕ) (from to calls : ℕ)
     (S : StateBuffers) (rs : List Assignment) (A : List ℕ) (S₁ : StateBuffers) (rs₁ : List Assignment) (A₁ : List ℕ) : Type 0 where
-  pub calls_within : calls ≤ from
-  pub to_within : to ≤ from
   pub counted : calls + length (calls_in (sizes_of B S) (drop from list)) ≡ length (calls_in (sizes_of B S) list)
   pub traced :
       (S' : StateBuffers) (rs' : List Assignment)
@@ -178,8 +203,6 @@ module _ (header : JobHeader) (B : JobSlices) (list : List ℕ) (S : StateBuffer
   pub list_start : ListTo header B list 0 0 0 S rs A S rs A
   list_start =
       record {
-        calls_within = omega arith;
-        to_within = omega arith;
         counted = omega arith;
         traced = λ S' rs' tr. tr;
         onward = λ j s t reach job head st. record { x = s; reached = reach; stands = st; whole = refl; stored = refl };
@@ -261,8 +284,6 @@ module _ (header : JobHeader) (B : JobSlices) (list : List ℕ) (S : StateBuffer
       pub list_more : ListTo header B list (from + 4) (to + 3) (calls + 1) S rs A S₂ rs₂ A₂
       list_more =
           record {
-            calls_within = let a = so.calls_within in omega (arith, a);
-            to_within = let a = so.to_within in omega (arith, a);
             counted =
                 let a = so.counted in
                 let b : length (calls_in (sizes_of B S) (drop from list)) ≡ suc (length (calls_in (sizes_of B S) (drop (from + 4) list))) = ap length more in

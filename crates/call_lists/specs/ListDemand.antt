@@ -32,8 +32,8 @@ pub record ListFromLoad (j : Job) (cs : List Call) (S : StateBuffers) : Type 0 w
   pub has_room : no_room answers_before list ≡ false
   pub carried_out_lem : ListCarriedOut header job list first first_records_lem answers_before S records_after answers_after refusal done
 
--- the table is that of the holders, placed anew on the fresh job, where no placement is refused; and two tables are equal exactly where the same numbers
--- hold the same registers
+-- the table is that of the holders, placed anew on the fresh job, where no placement is refused; and two tables are equal exactly where the same
+-- numbers hold the same registers
 pub record ListTablesAreHolders (j : Job) : Type 0 where
   pub none_refused : (cs : List Call) (S : StateBuffers) → ListFromLoad j cs S → answers j (fresh_state j) (placements j cs) ≡ map (λ h. placed h.reg) (holders_after j cs)
   pub rebuilt : (cs : List Call) (S : StateBuffers) → ListFromLoad j cs S → table_in S ≡ (after_all j (placements j cs)).table

@@ -48,7 +48,7 @@ calls_in lent (k ∷ n ∷ r ∷ w ∷ more) = cond (is_kind k) (call_of lent k 
 
 unfoldable pub listed_by : ℕ → ℕ → ℕ → ℕ → Option ListedCall
 listed_by k n r w =
-    cond (eqb k 1) (Some (Place (cut 65535 n) (cut 255 r) (cut 0xFFFF_FFFF w)))
+    cond (eqb k 1) (Some (Place (record { v = cut 65535 n; reg = cut 255 r; weight = cut 0xFFFF_FFFF w })))
     (cond (eqb k 2) (Some (Evict (cut 65535 n))) (cond (eqb k 3) (Some (Run n)) None))
 
 unfoldable pub listed : List ℕ → Option ListedCall
@@ -60,7 +60,7 @@ listed (k ∷ n ∷ r ∷ w ∷ more) = listed_by k n r w
 
 -- the rules' call that it is, with these sizes lent
 abbrev pub call_in : List ℕ → ListedCall → Call
-call_in lent (Place v r bits) = placing lent v r (of_bits binary32 bits)
+call_in lent (Place asked) = placing lent asked.v asked.reg (of_bits binary32 asked.weight)
 call_in lent (Evict v) = evicting lent v
 call_in lent (Run budget) = running lent budget
 
@@ -118,8 +118,8 @@ pub record CallStored (header : JobHeader) (B : JobSlices) (c : Call)
   pub answered : CallAnswered header B c S rs S' rs' n e x
   pub stored : A' ≡ sets A to (n ∷ e ∷ x ∷ [])
 
--- A list of calls, from S and rs to S' and rs'. Of any content: all its calls are made, each on what the last one left. On a state that calls reach: the
--- state after the list stands there, and A has the numbers of the answers from its front on, three for each call.
+-- A list of calls, from S and rs to S' and rs'. Of any content: all its calls are made, each on what the last one left. On a state that calls reach:
+-- the state after the list stands there, and A has the numbers of the answers from its front on, three for each call.
 pub record ListDone (header : JobHeader) (B : JobSlices) (list : List ℕ)
     (S : StateBuffers) (rs : List Assignment) (A : List ℕ) (S' : StateBuffers) (rs' : List Assignment) (A' : List ℕ) (done : ℕ) : Type 0 where
   pub counted : done ≡ length (calls_in (sizes_of B S) list)

@@ -4,16 +4,17 @@ ghost use Rattle.std.specs.Prelude.{◌≡◌, [], ◌∷◌, ◌+◌, ◌<◌, 
 ghost use Rattle.std.proofs.lemmas.List.Edits.{sets};
 ghost use Rattle.table_words.specs.Buffers.{SameState};
 ghost use Rattle.job_parts.specs.Lent.{slices_of};
-ghost use Rattle.run_loop.specs.Running.{lent_state, state_in};
+ghost use Rattle.run_loop.specs.Running.{state_in};
 ghost use Rattle.reg_matrix.specs.Refused.{number_in};
 ghost use Rattle.calls.specs.Calling.{afterwards, first_in, second_in, sizes_of};
 ghost use Rattle.call_lists.specs.Listed.{call_in, listed_by, listed, answer_numbers, word_in, value_in, CallAnswered, CallStored, ListDone, ListCarriedOut};
 
 use allocator::Assignment;
+use call_tests::Placement;
 use calls::direct::{assign, evict};
 use calls::runs::run;
 use job_parts::lent_job::LoadedJob;
-use lent::{at, put};
+use lent::put;
 use narrow::Narrow;
 use reg_matrix::Refusal;
 use run_loop::{RunEnd, ending_number};
@@ -29,10 +30,10 @@ fn store_numbers(out: &mut [u64], to: usize, refusal: u64, ending: u64, value: u
     put(out, to + 2, value);
 }
 
-// A call of a list: the placement of a virtual register in a register, with the binary32 bits of a weight; an eviction; or a run with a budget.
+// A call of a list: a placement, the eviction of a virtual register, or a run with a budget.
 #[derive(Clone, Copy, PartialEq, Eq, Debug)]
 pub enum ListedCall {
-    Place(u16, u8, u32),
+    Place(Placement),
     Evict(u16),
     Run(u64),
 }
@@ -64,26 +65,15 @@ fn listed_by(kind: u64, number: u64, reg: u64, weight: u64) -> Option<ListedCall
     ensures { result ≡ listed_by kind number reg weight }
 {
     match kind {
-        1 => Some(ListedCall::Place(u16::cut(number), u8::cut(reg), u32::cut(weight))),
+        1 => Some(ListedCall::Place(Placement {
+            v: u16::cut(number),
+            reg: u8::cut(reg),
+            weight: u32::cut(weight),
+        })),
         2 => Some(ListedCall::Evict(u16::cut(number))),
         3 => Some(ListedCall::Run(number)),
         _ => None,
     }
-}
-
-// The call whose words stand from place `from` on, if the list goes on there.
-fn call_at(list: &[u64], from: usize) -> Option<ListedCall>
-    ensures { result ≡ listed (drop from list.now) }
-{
-    if list.len() < 4 || list.len() - 4 < from {
-        return None;
-    }
-    listed_by(
-        at(list, from),
-        at(list, from + 1),
-        at(list, from + 2),
-        at(list, from + 3),
-    )
 }
 
 impl ListedCall {
@@ -99,9 +89,9 @@ impl ListedCall {
         ensures answered { CallAnswered loaded.entry.header (slices_of loaded.entry.job) (call_in (sizes_of (slices_of loaded.entry.job) (state_in state.old last.old)) self) (state_in state.old last.old) all (state_in state.new last.new) (afterwards all (first_in result)) (number_in result) (word_in result) (value_in result) }
     {
         match self {
-            ListedCall::Place(v, reg, weight) => {
-                let after = assign(all, v, reg, weight, loaded, state, last)?;
-                Ok((after, CallAnswer::Placed(reg)))
+            ListedCall::Place(asked) => {
+                let after = assign(all, asked, loaded, state, last)?;
+                Ok((after, CallAnswer::Placed(asked.reg)))
             }
             ListedCall::Evict(v) => {
                 let (after, reg) = evict(all, v, loaded, state, last)?;
@@ -149,39 +139,38 @@ fn carry_out_calls(
     records: [Assignment; 512],
     list: &[u64],
     loaded: LoadedJob<'_>,
-    ends: &mut [u64],
-    rests: &mut [u64],
-    queue: &mut [u64],
+    state: &mut LentState<'_>,
     last: &mut [u8],
     out: &mut [u64],
 ) -> ([Assignment; 512], u64)
-    ensures { ListDone loaded.entry.header (slices_of loaded.entry.job) list.now (lent_state ends.old rests.old queue.old last.old) records out.old (lent_state ends.new rests.new queue.new last.new) result.0 out.new result.1 }
+    ensures same { SameState state.old state.new }
+    ensures done { ListDone loaded.entry.header (slices_of loaded.entry.job) list.now (state_in state.old last.old) records out.old (state_in state.new last.new) result.0 out.new result.1 }
 {
+    // taken apart here, and made anew for each call: of a struct over the loop it is not known that its slices keep their lengths
+    let ends: &mut [u64] = state.ends;
+    let rests: &mut [u64] = state.rests;
+    let queue: &mut [u64] = state.queue;
     let mut all = records;
-    let mut from: usize = 0;
-    let mut to: usize = 0;
-    let mut calls: u64 = 0;
-    // a `for` is no plainer here: the list ends at a word that is no kind, and what answers is the number of calls
-    while let Some(call) = call_at(list, from) {
-        // tried, and the proof did not close: the state as a struct over the loop, since the slices' lengths are not known behind it
-        let mut state = LentState { ends, rests, queue };
+    let (calls, _) = list.as_chunks::<4>();
+    for (i, words) in calls.iter().enumerate() {
+        let Some(call) = listed_by(words[0], words[1], words[2], words[3]) else {
+            return (all, i as u64);
+        };
+        let mut now = LentState { ends, rests, queue };
         // tried, and not covered by the check: the call's array given straight to `all`
-        let after = call.carry_out(all, loaded, &mut state, last, out, to);
+        let after = call.carry_out(all, loaded, &mut now, last, out, 3 * i);
         all = after;
-        from += 4;
-        to += 3;
-        calls += 1;
     }
-    (all, calls)
+    (all, calls.len() as u64)
 }
 
 // Carries out a list of calls, one after another, each on what the last one left; a refused one changes nothing, and the next is made all the same. A
 // call is four words: its kind (1 a placement, 2 an eviction, 3 a run), a number or the run's budget, a register, and the bits of a weight; a kind
-// reads what it needs of them. A number that has no room in 16 bits, a register in 8 or bits in 32 stand for the greatest there, which is refused. The
-// list ends where four words are no longer left, or at a word that is no kind. For each call three numbers go into the answers, from their front on:
-// the refusal or 0; the word of a run (1 done, 2 spent, 3 toomany) or 0; the register given or taken away, or the dequeues. What returns is the records
-// afterwards, and how many calls were made. The list is refused with 15 where the answers do not have three places for each four words of it, and then
-// nothing is changed.
+// reads what it needs of them. A number that has no room in 16 bits, a register in 8 or bits in 32 stand for the greatest there, which is refused.
+// The list ends where four words are no longer left, or at a word that is no kind. For each call three numbers go into the answers, from their front
+// on: the refusal or 0; the word of a run (1 done, 2 spent, 3 toomany) or 0; the register given or taken away, or the dequeues. What returns is the
+// records afterwards, and how many calls were made. The list is refused with 15 where the answers do not have three places for each four words of it,
+// and then nothing is changed.
 pub fn carry_out_list(
     records: [Assignment; 512],
     list: &[u64],
@@ -196,14 +185,5 @@ pub fn carry_out_list(
     if answers.len() / 3 < list.len() / 4 {
         return Err(Refusal::ShortBuffer);
     }
-    Ok(carry_out_calls(
-        records,
-        list,
-        loaded,
-        state.ends,
-        state.rests,
-        state.queue,
-        last,
-        answers,
-    ))
+    Ok(carry_out_calls(records, list, loaded, state, last, answers))
 }

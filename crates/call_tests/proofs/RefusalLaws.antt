@@ -1,4 +1,5 @@
--- The tests of direct calls: what each is of what is lent, and that together, on a state that calls reach, they are those of the rules. Assumes nothing.
+-- The tests of direct calls: what each is of what is lent, and that together, on a state that calls reach, they are those of the rules.
+-- Assumes nothing.
 use Prim.Native.Nat.{ℕ, zero, suc, ◌+◌, ◌/◌, ◌%◌, ◌≤◌, ◌<◌}
 use native.Mathlib.Omega.{arith}
 use mathlib.Core.Path.{◌≡◌, refl, sym, ap, ap₂, ◌∙◌, subst}

@@ -1,12 +1,14 @@
 // The tests of direct calls in their order (document 01, "Order"): 15, 8, 9, 13, 14. They read, and change nothing.
 #![tactic(auto)]
 
-ghost use Rattle.std.specs.Prelude.{◌≡◌, [], ◌∷◌, leb, length};
+ghost use Rattle.std.specs.Prelude.{◌≡◌, false, [], ◌∷◌, leb, length};
+ghost use Rattle.std.specs.Result.{IfOk};
 ghost use Rattle.reg_matrix.specs.Lists.{any, count, has};
 ghost use Rattle.reg_matrix.specs.Refusals.{refusal, short_buffer};
 ghost use Rattle.reg_matrix.specs.Refused.{refusal_in};
 ghost use Rattle.allocator.specs.Layout.{stage_limits};
 ghost use Rattle.job_parts.specs.Lent.{slices_of};
+ghost use Rattle.records.specs.Fields.{reg_in};
 ghost use Rattle.call_tests.specs.Testing.{is_free, hinted_at, named_to, unknown_in, clear_to, place_tests, evict_tests};
 
 use allocator::Assignment;
@@ -14,25 +16,17 @@ use job::{HINT_REGS, HINT_STARTS, SETS, USES};
 use job_parts::lent_job::{LentJob, LoadedJob};
 use job_parts::{class_of, part_of, segments_of};
 use lent::{at, from};
-use records::assignment::is_assigned;
+use records::assignment::held;
 use reg_matrix::Refusal;
 use stage::allocate::is_clear;
-use table_words::buffers::{LentState, RegMatrix, Table};
+use table_words::buffers::{RegMatrix, Table};
 
-// Whether one of the buffers lent to a call is below its limit. They come in the limits' order.
+// Whether one of the buffers lent to a call is below its limit.
 #[tactic(auto, unfolding(reg_matrix::specs::Refusals::short_buffer))]
-pub fn short_buffers(job: LentJob<'_>, state: &LentState<'_>, last: &[u8]) -> bool
-    ensures { result ≡ short_buffer stage_limits (length job.entry.j64.now ∷ length job.entry.j32.now ∷ length job.entry.j16.now ∷ length job.entry.j8.now ∷ length job.entry.jf.now ∷ length state.now.ends.now ∷ length state.now.rests.now ∷ length state.now.queue.now ∷ length last.now ∷ []) }
+pub fn short_buffers(job: LentJob<'_>, table: Table<'_>, queue: &[u64], last: &[u8]) -> bool
+    ensures { result ≡ short_buffer stage_limits (length job.entry.j64.now ∷ length job.entry.j32.now ∷ length job.entry.j16.now ∷ length job.entry.j8.now ∷ length job.entry.jf.now ∷ length table.entry.ends.now ∷ length table.entry.rests.now ∷ length queue.now ∷ length last.now ∷ []) }
 {
-    job.j64.len() < 576
-        || job.j32.len() < 1536
-        || job.j16.len() < 2067
-        || job.j8.len() < 2560
-        || job.jf.len() < 1536
-        || state.ends.len() < 2560
-        || state.rests.len() < 2560
-        || state.queue.len() < 1024
-        || last.len() < 512
+    job.is_short() || table.is_short() || queue.len() < 1024 || last.len() < 512
 }
 
 // Whether a register is among these.
@@ -54,12 +48,7 @@ fn hint_names(k: u16, set: u16, reg: u8, sets: &[u16], starts: &[u16], hints: &[
 fn set_names(n: u16, set: u16, reg: u8, sets: &[u16], starts: &[u16], hints: &[u8]) -> bool
     ensures { result ≡ any (hinted_at sets.now starts.now hints.now set reg) (count 0 n) }
 {
-    for k in 0..n {
-        if hint_names(k, set, reg, sets, starts, hints) {
-            return true;
-        }
-    }
-    false
+    (0..n).any(|k| hint_names(k, set, reg, sets, starts, hints))
 }
 
 // Whether the class of v, or a hint of a member of its set, names the register, where there are n numbers.
@@ -76,75 +65,79 @@ fn is_named(n: u16, v: u16, reg: u8, job: LentJob<'_>) -> bool
     set_names(n, set, reg, sets, starts, from(job.j8, HINT_REGS))
 }
 
-// Test 8 of a placement: no such number, no such register, or one that v may not have.
-pub fn is_unknown(v: u16, reg: u8, loaded: LoadedJob<'_>) -> bool
-    ensures { result ≡ unknown_in loaded.entry.header.virt_regs loaded.entry.header.regs v reg (named_to (slices_of loaded.entry.job) loaded.entry.header.virt_regs v reg) }
-{
-    let header = loaded.header;
-    header.virt_regs <= v || header.regs <= reg || !is_named(header.virt_regs, v, reg, loaded.job)
-}
-
-// Whether the check of v's segments on the register's units reports nothing.
-#[tactic(auto, unfolding(crate::specs::Testing::clear_at))]
-pub fn is_clear_at(v: u16, reg: u8, job: LentJob<'_>, table: Table<'_>) -> bool
-    ensures { result ≡ clear_to (slices_of job.entry) table.entry.ends.now table.entry.rests.now v reg }
-{
-    let units = at(job.j64, reg as usize);
-    let uses = from(job.j64, USES);
-    is_clear(units, RegMatrix { table, uses }, segments_of(v, job))
-}
-
-// Whether a record waits for a register. One line, like `is_assigned` of another case: one function for both would be no plainer.
+// Whether a record waits for a register.
 fn is_free(a: Assignment) -> bool
     ensures { result ≡ is_free a }
 {
     matches!(a, Assignment::Unassigned { .. })
 }
 
-// Why a placement is refused: 15, 8, 9, 13, 14. It is told whether a buffer is short; the weight comes as binary32 bits, and `a` is the record of v.
-#[tactic(auto, unfolding(reg_matrix::specs::Refusals::refusal))]
-pub fn place_refusal(
-    short: bool,
-    a: Assignment,
-    v: u16,
-    reg: u8,
-    weight: u32,
-    loaded: LoadedJob<'_>,
-    table: Table<'_>,
-) -> Result<(), Refusal>
-    ensures { refusal_in result ≡ refusal (place_tests short (unknown_in loaded.entry.header.virt_regs loaded.entry.header.regs v reg (named_to (slices_of loaded.entry.job) loaded.entry.header.virt_regs v reg)) weight a (clear_to (slices_of loaded.entry.job) table.entry.ends.now table.entry.rests.now v reg)) }
-{
-    if short {
-        return Err(Refusal::ShortBuffer);
-    }
-    if is_unknown(v, reg, loaded) {
-        return Err(Refusal::UnknownNumber);
-    }
-    if 0x7F80_0000 <= weight {
-        return Err(Refusal::BadWeight);
-    }
-    if !is_free(a) {
-        return Err(Refusal::WrongStanding);
-    }
-    if !is_clear_at(v, reg, loaded.job, table) {
-        return Err(Refusal::Interference);
-    }
-    Ok(())
+// A placement that is asked for: of v in the register, with the weight of these binary32 bits.
+#[derive(Clone, Copy, PartialEq, Eq, Debug)]
+pub struct Placement {
+    pub v: u16,
+    pub reg: u8,
+    pub weight: u32,
 }
 
-// Why an eviction is refused: 15, 8, 13.
-#[tactic(auto, unfolding(reg_matrix::specs::Refusals::refusal))]
-pub fn evict_refusal(short: bool, a: Assignment, virt_regs: u16, v: u16) -> Result<(), Refusal>
-    ensures { refusal_in result ≡ refusal (evict_tests short (leb virt_regs v) a) }
-{
-    if short {
-        return Err(Refusal::ShortBuffer);
+impl Placement {
+    // Test 8: no such number, no such register, or one that v may not have.
+    pub fn is_unknown(self, loaded: LoadedJob<'_>) -> bool
+        ensures { result ≡ unknown_in loaded.entry.header.virt_regs loaded.entry.header.regs self.v self.reg (named_to (slices_of loaded.entry.job) loaded.entry.header.virt_regs self.v self.reg) }
+    {
+        let header = loaded.header;
+        header.virt_regs <= self.v
+            || header.regs <= self.reg
+            || !is_named(header.virt_regs, self.v, self.reg, loaded.job)
     }
-    if virt_regs <= v {
+
+    // Whether the check of v's segments on the register's units reports nothing.
+    #[tactic(auto, unfolding(crate::specs::Testing::clear_at))]
+    pub fn is_clear(self, job: LentJob<'_>, table: Table<'_>) -> bool
+        ensures { result ≡ clear_to (slices_of job.entry) table.entry.ends.now table.entry.rests.now self.v self.reg }
+    {
+        let units = at(job.j64, self.reg as usize);
+        let uses = from(job.j64, USES);
+        is_clear(units, RegMatrix { table, uses }, segments_of(self.v, job))
+    }
+
+    // Why it is refused where no buffer is short: 8, 9, 13, 14. `a` is the record of v.
+    #[tactic(auto, unfolding(reg_matrix::specs::Refusals::refusal))]
+    pub fn refusal(
+        self,
+        a: Assignment,
+        loaded: LoadedJob<'_>,
+        table: Table<'_>,
+    ) -> Result<(), Refusal>
+        ensures { refusal_in result ≡ refusal (place_tests false (unknown_in loaded.entry.header.virt_regs loaded.entry.header.regs self.v self.reg (named_to (slices_of loaded.entry.job) loaded.entry.header.virt_regs self.v self.reg)) self.weight a (clear_to (slices_of loaded.entry.job) table.entry.ends.now table.entry.rests.now self.v self.reg)) }
+    {
+        if self.is_unknown(loaded) {
+            return Err(Refusal::UnknownNumber);
+        }
+        if 0x7F80_0000 <= self.weight {
+            return Err(Refusal::BadWeight);
+        }
+        if !is_free(a) {
+            return Err(Refusal::WrongStanding);
+        }
+        if !self.is_clear(loaded.job, table) {
+            return Err(Refusal::Interference);
+        }
+        Ok(())
+    }
+}
+
+// The register that an eviction takes from v, of n numbers, or why it is refused where no buffer is short: 8, 13. `a` is the record of v.
+#[tactic(auto, unfolding(reg_matrix::specs::Refusals::refusal))]
+pub fn evicted_reg(a: Assignment, n: u16, v: u16) -> Result<u8, Refusal>
+    ensures refused { refusal_in result ≡ refusal (evict_tests false (leb n v) a) }
+    ensures held { IfOk result (λ reg. reg ≡ reg_in a) }
+{
+    if n <= v {
         return Err(Refusal::UnknownNumber);
     }
-    if !is_assigned(a) {
+    let Some(c) = held(a) else {
         return Err(Refusal::WrongStanding);
-    }
-    Ok(())
+    };
+    Ok(c.reg)
 }

@@ -1,4 +1,5 @@
--- Direct calls: what is refused leaves all as it was, and on a state that calls reach what is carried out leaves the state of the rules. Assumes nothing.
+-- Direct calls: what is refused leaves all as it was, and on a state that calls reach what is carried out leaves the state of the rules.
+-- Assumes nothing.
 use Prim.Native.Nat.{ℕ, ◌≤◌, ◌<◌}
 use native.Mathlib.Omega.{arith}
 use mathlib.Core.Path.{◌≡◌, refl, sym, ap, ◌∙◌, subst}
@@ -223,6 +224,14 @@ module _ (header : JobHeader) (B : JobSlices) (v reg bits : ℕ) (S : StateBuffe
               };
         }
 
+-- a buffer is short
+pub placing_short :
+    (header : JobHeader) (B : JobSlices) (v reg bits : ℕ) (S : StateBuffers) (rs : List Assignment) (a : Assignment)
+    → a ≡ get_or rs v Dead → short_buffer stage_limits (sizes_of B S) ≡ true → Placed header B v reg bits S rs S rs 15
+placing_short header B v reg bits S rs a read e =
+    placing_refused header B v reg bits S rs a read 15
+    (place_answered header B v reg bits S a true (sym e) 15 (sym (refused_first 15 true _ refl))) (λ q. omega (arith, q))
+
 -- ---- evicting
 
 is_some_lem : {A : Type 0} (o : Option A) → T (is_some o) → (x : A) × (o ≡ some x)
@@ -327,3 +336,10 @@ module _ (header : JobHeader) (B : JobSlices) (v : ℕ) (S : StateBuffers) (rs :
               let k = (evicting_accepted j s (sizes_of B S) v).0 q in
               rw q (px ∙ pg ∙ ap reg_in (read_record B v S rs a read j s t g jb st k.known) ∙ (held_is j s g v).1);
         }
+
+-- a buffer is short
+pub evicting_short :
+    (header : JobHeader) (B : JobSlices) (v : ℕ) (S : StateBuffers) (rs : List Assignment) (a : Assignment)
+    → a ≡ get_or rs v Dead → short_buffer stage_limits (sizes_of B S) ≡ true → Evicted header B v S rs S rs 15 0
+evicting_short header B v S rs a read e =
+    evicting_refused header B v S rs a read true (sym e) 15 (sym (refused_first 15 true _ refl)) (λ q. omega (arith, q))

@@ -6,14 +6,13 @@ ghost use Rattle.table_words.specs.Buffers.{SameState};
 ghost use Rattle.job_parts.specs.Lent.{slices_of};
 ghost use Rattle.run_loop.specs.Running.{state_in};
 ghost use Rattle.reg_matrix.specs.Refused.{number_in};
-ghost use Rattle.calls.specs.Calling.{afterwards, first_in, second_in, place_answer, Placed, Evicted};
+ghost use Rattle.calls.specs.Calling.{afterwards, first_in, second_in, Placed, Evicted};
 
 use allocator::Assignment;
-use call_tests::{evict_refusal, place_refusal, short_buffers};
+use call_tests::{Placement, evicted_reg, short_buffers};
 use job_parts::lent_job::LoadedJob;
 use lent::put;
 use moves::{take, take_back};
-use records::assignment::reg_of;
 use records::changes::{placed, waiting};
 use reg_matrix::Refusal;
 use table_words::buffers::LentState;
@@ -34,55 +33,28 @@ fn with_record(records: [Assignment; 512], v: u16, a: Assignment) -> [Assignment
     all
 }
 
-// A placement that is asked for: of v in the register, with the weight of these binary32 bits.
-#[derive(Clone, Copy, PartialEq, Eq, Debug)]
-pub struct Placement {
-    pub v: u16,
-    pub reg: u8,
-    pub weight: u32,
-}
-
-impl Placement {
-    // Why it is refused, where `a` is the record of v. It reads, and changes nothing.
-    fn refusal(
-        self,
-        a: Assignment,
-        loaded: LoadedJob<'_>,
-        state: &LentState<'_>,
-        last: &[u8],
-    ) -> Result<(), Refusal>
-        ensures { number_in result ≡ place_answer loaded.entry.header (slices_of loaded.entry.job) self.v self.reg self.weight (state_in state.now last.now) a }
-    {
-        let short = short_buffers(loaded.job, state, last);
-        place_refusal(
-            short,
-            a,
-            self.v,
-            self.reg,
-            self.weight,
-            loaded,
-            state.as_table(),
-        )
+// Makes the placement, where `a` is the record of its number v: v's segments go into the table, it leaves the queue, and the register is the last
+// one of its set. The record afterwards keeps the flag. Refused, nothing is changed: 15 where a buffer is short, 8 where there is no such number or
+// register or v may not have it, 9 where the weight is infinite, no number or has the sign, 13 where v is not unassigned, 14 where the check reports
+// anything.
+pub fn place(
+    asked: Placement,
+    a: Assignment,
+    loaded: LoadedJob<'_>,
+    state: &mut LentState<'_>,
+    last: &mut [u8],
+) -> Result<Assignment, Refusal>
+    ensures same { SameState state.old state.new }
+    ensures called { (rs : List Assignment) → a ≡ get_or rs asked.v Dead → Placed loaded.entry.header (slices_of loaded.entry.job) asked.v asked.reg asked.weight (state_in state.old last.old) rs (state_in state.new last.new) (set rs asked.v (afterwards a result)) (number_in result) }
+{
+    let lent = &*state;
+    let table = lent.as_table();
+    if short_buffers(loaded.job, table, lent.queue, last) {
+        return Err(Refusal::ShortBuffer);
     }
-
-    // Makes the placement, where `a` is the record of v: its segments go into the table, it leaves the queue, and the register is the last one of its
-    // set. The record afterwards keeps the flag. Refused, nothing is changed: 15 where a buffer is short, 8 where there is no such number or register
-    // or v may not have it, 9 where the weight is infinite, no number or has the sign, 13 where v is not unassigned, 14 where the check reports
-    // anything.
-    pub fn place(
-        self,
-        a: Assignment,
-        loaded: LoadedJob<'_>,
-        state: &mut LentState<'_>,
-        last: &mut [u8],
-    ) -> Result<Assignment, Refusal>
-        ensures same { SameState state.old state.new }
-        ensures called { (rs : List Assignment) → a ≡ get_or rs self.v Dead → Placed loaded.entry.header (slices_of loaded.entry.job) self.v self.reg self.weight (state_in state.old last.old) rs (state_in state.new last.new) (set rs self.v (afterwards a result)) (number_in result) }
-    {
-        self.refusal(a, loaded, state, last)?;
-        take(self.v, self.reg, loaded.job, state, last);
-        Ok(placed(a, self.reg, self.weight))
-    }
+    asked.refusal(a, loaded, table)?;
+    take(asked.v, asked.reg, loaded.job, state, last);
+    Ok(placed(a, asked.reg, asked.weight))
 }
 
 // An eviction that is asked for.
@@ -105,38 +77,37 @@ impl Eviction {
         ensures same { SameState state.old state.new }
         ensures called { (rs : List Assignment) → a ≡ get_or rs self.v Dead → Evicted loaded.entry.header (slices_of loaded.entry.job) self.v (state_in state.old last.now) rs (state_in state.new last.now) (set rs self.v (afterwards a (first_in result))) (number_in result) (second_in result) }
     {
-        let short = short_buffers(loaded.job, state, last);
-        evict_refusal(short, a, loaded.header.virt_regs, self.v)?;
-        let reg = reg_of(a);
+        let lent = &*state;
+        if short_buffers(loaded.job, lent.as_table(), lent.queue, last) {
+            return Err(Refusal::ShortBuffer);
+        }
+        let reg = evicted_reg(a, loaded.header.virt_regs, self.v)?;
         take_back(self.v, reg, loaded.job, state);
         Ok((waiting(a), reg))
     }
 }
 
-// Places v in the register, with the weight of these binary32 bits: its segments go into the table, it leaves the queue, its record says so and keeps
-// its flag, and the register is the last one of its set. Answers the records afterwards. Refused, nothing is changed: 15 where a buffer is short, 8
-// where there is no such number or register or v may not have it, 9 where the weight is infinite, no number or has the sign, 13 where v is not
-// unassigned, 14 where the check reports anything.
+// Makes the placement among all records: v's segments go into the table, it leaves the queue, its record says so and keeps its flag, and the
+// register is the last one of its set. Answers the records afterwards. Refused, nothing is changed: 15 where a buffer is short, 8 where there is no
+// such number or register or v may not have it, 9 where the weight is infinite, no number or has the sign, 13 where v is not unassigned, 14 where
+// the check reports anything.
 pub fn assign(
     records: [Assignment; 512],
-    v: u16,
-    reg: u8,
-    weight: u32,
+    asked: Placement,
     loaded: LoadedJob<'_>,
     state: &mut LentState<'_>,
     last: &mut [u8],
 ) -> Result<[Assignment; 512], Refusal>
     ensures same { SameState state.old state.new }
-    ensures called { Placed loaded.entry.header (slices_of loaded.entry.job) v reg weight (state_in state.old last.old) records (state_in state.new last.new) (afterwards records result) (number_in result) }
+    ensures called { Placed loaded.entry.header (slices_of loaded.entry.job) asked.v asked.reg asked.weight (state_in state.old last.old) records (state_in state.new last.new) (afterwards records result) (number_in result) }
 {
-    let a = record_at(records, v);
-    let asked = Placement { v, reg, weight };
-    let after = asked.place(a, loaded, state, last)?;
-    Ok(with_record(records, v, after))
+    let a = record_at(records, asked.v);
+    let after = place(asked, a, loaded, state, last)?;
+    Ok(with_record(records, asked.v, after))
 }
 
-// Evicts v: its entries leave the table, it is queued at stage Evict, and its record says so and keeps its flag. Answers the records afterwards and the
-// register that v held. Refused, nothing is changed: 15 where a buffer is short, 8 where there is no such number, 13 where v holds no register.
+// Evicts v: its entries leave the table, it is queued at stage Evict, and its record says so and keeps its flag. Answers the records afterwards and
+// the register that v held. Refused, nothing is changed: 15 where a buffer is short, 8 where there is no such number, 13 where v holds no register.
 pub fn evict(
     records: [Assignment; 512],
     v: u16,

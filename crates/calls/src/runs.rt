@@ -25,7 +25,8 @@ pub fn run(
     ensures same { SameState state.old state.new }
     ensures called { RunCalled (slices_of job.entry) budget (state_in state.old last.old) records (state_in state.new last.new) (afterwards records (first_in result)) (number_in result) (ending_in result) (dequeues_in result) }
 {
-    if short_buffers(job, state, last) {
+    let lent = &*state;
+    if short_buffers(job, lent.as_table(), lent.queue, last) {
         return Err(Refusal::ShortBuffer);
     }
     let mut words = [0u64; 512];

@@ -29,8 +29,8 @@ use stage::allocate::{
 use stage::search::Search;
 use table_words::buffers::{RegMatrix, Table};
 
-// What a dequeue decides of a number: it is left over; it takes a register that is clear; it takes one after evicting its holders, and its flag turns on
-// or stays; it goes back to the queue at stage Split; or the run ends, as too many are live.
+// What a dequeue decides of a number: it is left over; it takes a register that is clear; it takes one after evicting its holders, and its flag turns
+// on or stays; it goes back to the queue at stage Split; or the run ends, as too many are live.
 #[derive(Clone, Copy)]
 pub enum Decided {
     Leaves,
@@ -44,7 +44,7 @@ pub enum Decided {
     Fails,
 }
 
-// The register last given to the set of v.
+// The register last given to the set of v. In its byte it stands plus one, and 0 stands for none: C lends these bytes.
 #[tactic(auto, unfolding(crate::specs::Deciding::last_in))]
 fn last_given(last: &[u8], sets: &[u16], v: u16) -> Option<u8>
     ensures { result ≡ last_in last.now sets.now v }
@@ -159,8 +159,7 @@ pub fn decide(
 {
     let i = v as usize;
     let last_reg = last_given(last, from(job.j16, SETS), v);
-    let mut order = AllocationOrder::of_class(class_of(v, job));
-    order.compute(hints_of(v, job), last_reg);
+    let order = AllocationOrder::new(class_of(v, job), hints_of(v, job), last_reg);
     let d = Dequeued {
         stage,
         flag: flag_of(record_of(at(words, i))),

@@ -1,4 +1,5 @@
--- An eviction's cost in the shape of the code, a holder at a time; what of it is the rule's own is Evict.antt's (document 01, "Costs"). Assumes nothing.
+-- An eviction's cost in the shape of the code, a holder at a time; what of it is the rule's own is Evict.antt's (document 01, "Costs").
+-- Assumes nothing.
 use Rattle.std.specs.Prelude.{Bool, not, ◌&&◌, ◌||◌, cond, Float}
 use Rattle.std.specs.Float.{binary32}
 use Rattle.std.specs.Float.Ieee.{add, lt, eq}

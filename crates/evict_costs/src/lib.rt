@@ -42,7 +42,8 @@ pub fn is_cheaper(a: EvictCost, b: EvictCost) -> bool
 }
 
 // Whether a candidate of this weight may evict holders of this spill weight for a number with this flag and spill weight. A struct of these last two
-// would be no plainer: they are two fields of `Dequeued` (decisions), a search puts both into its limit, and only this test reads them.
+// would be no plainer: they are the dequeued number's, and what decides (decisions) also reads each alone, the flag for a preferred candidate and the
+// weight for an infinite one; a search puts both into its limit, beside what it wants of the candidate.
 pub fn may_evict(weight: f32, flag: bool, spill: f32, own: f32) -> bool
     ensures { result ≡ may_evict weight flag spill own }
 {

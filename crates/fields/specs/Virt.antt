@@ -1,6 +1,6 @@
 -- What the readers of virtual registers promise, in the terms of the parsers of Load.antt. What they store stands in the slices of a job (Layout.antt
 -- of the job), where there is room. Assumes nothing.
-use Rattle.std.specs.Prelude.{ℕ, ◌+◌, ◌≤◌, ◌≡◌, List, map, Float, drop, length, set, Result, Ok, Err}
+use Rattle.std.specs.Prelude.{ℕ, ◌+◌, ◌≡◌, List, map, Float, drop, length, set, Result, Ok, Err}
 use Rattle.std.proofs.lemmas.List.Edits.{sets}
 use Rattle.reg_matrix.specs.Refused.{number_of}
 use Rattle.reg_matrix.specs.declared.Refusal.{Refusal}
@@ -11,15 +11,16 @@ use Rattle.job.specs.Model.{VirtReg}
 use Rattle.job.specs.Parser.{Parsed, refused, parsed}
 use Rattle.job.specs.Layout.{starts_from, JobSlices}
 use Rattle.reader.specs.Read.{Stored, hints_of_all, segments_of_all}
+use Rattle.fields.specs.declared.totals.Totals.{Totals}
 
--- a virtual register with these fields, k hints and l segments
-pub record Virt (f : VirtRegFields) (k l : ℕ) (v : VirtReg) : Type 0 where
+-- a virtual register with these fields, with whose hints and segments the totals before it are those after it
+pub record Virt (f : VirtRegFields) (before after : Totals) (v : VirtReg) : Type 0 where
   pub class : v.class ≡ f.class
   pub value_set : v.value_set ≡ f.value_set
   pub spill_weight : v.spill_weight ≡ f.spill_weight
   pub size : v.size ≡ f.size
-  pub hints : length v.hints ≡ k
-  pub segments : length v.segments ≡ l
+  pub hints : before.hints + length v.hints ≡ after.hints
+  pub segments : before.segments + length v.segments ≡ after.segments
 
 -- ---- what is stored, by the slice of its kind
 
@@ -89,17 +90,18 @@ VirtsIn B B' = VirtsAt B.j32 B.j16 B.j8 B.jf B'.j32 B'.j16 B'.j8 B'.jf
 
 -- ---- the answers, each with the bytes that are left
 
-abbrev pub VirtOut : List ℕ → Parsed VirtReg → ℕ → ℕ → Result (VirtRegFields × ℕ × ℕ) Refusal → (List Hint → Type 0) → (List ValueSegment → Type 0) → Type 0
-VirtOut l₁ p h g (Err r) hs ss = p ≡ refused (number_of r)
-VirtOut l₁ p h g (Ok (f, k, l)) hs ss =
-    (v : VirtReg) × (p ≡ parsed v l₁) × Virt f k l v × (h + k ≤ 1024) × (g + l ≤ 512) × hs v.hints × ss v.segments
+abbrev pub VirtOut : List ℕ → Parsed VirtReg → Totals → Result (VirtRegFields × Totals) Refusal → (List Hint → Type 0) → (List ValueSegment → Type 0) → Type 0
+VirtOut l₁ p before (Err r) hs ss = p ≡ refused (number_of r)
+VirtOut l₁ p before (Ok (f, after)) hs ss = (v : VirtReg) × (p ≡ parsed v l₁) × Virt f before after v × hs v.hints × ss v.segments
 
-abbrev pub VirtsOut : List ℕ → Parsed (List VirtReg) → Result (ℕ × ℕ) Refusal → (List VirtReg → Type 0) → Type 0
+-- the hints and segments of all
+abbrev pub TotalsOf : Totals → List VirtReg → Type 0
+TotalsOf t vs = (length (hints_of_all vs) ≡ t.hints) × (length (segments_of_all vs) ≡ t.segments)
+
+abbrev pub VirtsOut : List ℕ → Parsed (List VirtReg) → Result Totals Refusal → (List VirtReg → Type 0) → Type 0
 VirtsOut l p (Err r) stored = p ≡ refused (number_of r)
-VirtsOut l p (Ok (h, g)) stored =
-    (vs : List VirtReg) × (p ≡ parsed vs l) × (length (hints_of_all vs) ≡ h) × (length (segments_of_all vs) ≡ g) × (h ≤ 1024) × (g ≤ 512) × stored vs
+VirtsOut l p (Ok t) stored = (vs : List VirtReg) × (p ≡ parsed vs l) × TotalsOf t vs × stored vs
 
-abbrev pub TableOut : List ℕ → Parsed (List VirtReg) → Result (ℕ × ℕ × ℕ) Refusal → (List VirtReg → Type 0) → Type 0
+abbrev pub TableOut : List ℕ → Parsed (List VirtReg) → Result (ℕ × Totals) Refusal → (List VirtReg → Type 0) → Type 0
 TableOut l p (Err r) stored = p ≡ refused (number_of r)
-TableOut l p (Ok (n, h, g)) stored =
-    (vs : List VirtReg) × (p ≡ parsed vs l) × (length vs ≡ n) × (length (hints_of_all vs) ≡ h) × (length (segments_of_all vs) ≡ g) × (h ≤ 1024) × (g ≤ 512) × stored vs
+TableOut l p (Ok (n, t)) stored = (vs : List VirtReg) × (p ≡ parsed vs l) × (length vs ≡ n) × TotalsOf t vs × stored vs

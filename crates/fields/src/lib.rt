@@ -2,4 +2,5 @@
 // whole_fields.
 #![tactic(auto)]
 
+pub mod totals;
 pub mod virt;

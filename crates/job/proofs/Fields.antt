@@ -1,4 +1,5 @@
--- What the readers of a job's fields ensure of what they read (document 01, "The job"): each test that did not refuse, and the limits. Assumes nothing.
+-- What the readers of a job's fields ensure of what they read (document 01, "The job"): each test that did not refuse, and the limits.
+-- Assumes nothing.
 use Prim.Native.Nat.{ℕ, ◌<◌, ◌≤◌, ◌+◌, ◌%◌, ◌^◌}
 use native.Mathlib.Omega.{arith}
 use mathlib.Core.Path.{◌≡◌, refl, sym, subst}

@@ -1,6 +1,6 @@
 -- How a loaded job stands in lent numbers (document 01, "The job", "Limits"): a list for each field, the virtual registers' by number, at its limit's
--- size; and one slice for each kind of number, with the lists of that kind one after another. What is past a list's last is zero, but for the fixed uses
--- (see reg_matrix). A longer slice keeps its tail. Assumes nothing.
+-- size; and one slice for each kind of number, with the lists of that kind one after another. What is past a list's last is zero, but for the fixed
+-- uses (see reg_matrix). A longer slice keeps its tail. Assumes nothing.
 use Rattle.std.specs.Prelude.{ℕ, ◌+◌, List, [], ◌∷◌, ◌++◌, map, Float, length, drop}
 use Rattle.std.proofs.Math.Option.{Option, none, some}
 use Rattle.reg_matrix.specs.Lists.{concat_map, padded}

@@ -28,8 +28,8 @@ pub struct VirtRegFields {
     pub size: u32,
 }
 
-// 01, "The job": what goes by value of a loaded job: how many registers, classes and virtual registers there are, the probe range, which the spare line
-// asks about, if the job has one, and the budget.
+// 01, "The job": what goes by value of a loaded job: how many registers, classes and virtual registers there are, the probe range, which the spare
+// line asks about, if the job has one, and the budget.
 #[derive(Clone, Copy)]
 pub struct JobHeader {
     pub regs: u8,
@@ -39,8 +39,8 @@ pub struct JobHeader {
     pub budget: u32,
 }
 
-// Where the lists of a loaded job begin in the slices that are lent for it, one slice for each kind of number (specs/Layout.antt): j64, j32, j16 and j8
-// for numbers of so many bits, jf for weights. In j64: the registers' maps at place 0, the fixed uses.
+// Where the lists of a loaded job begin in the slices that are lent for it, one slice for each kind of number (specs/Layout.antt): j64, j32, j16 and
+// j8 for numbers of so many bits, jf for weights. In j64: the registers' maps at place 0, the fixed uses.
 pub const USES: usize = 64;
 
 // In j32: where segments start at place 0, where they end, the sizes.

@@ -9,18 +9,12 @@ use job_parts::lent_job::{LentJob, LentJobMut};
 use lent::clear;
 use table_words::buffers::Table;
 
-// Whether a slice of the job or of the table is below its limit. They come in the limits' order.
+// Whether a slice of the job or of the table is below its limit.
 #[tactic(auto, unfolding(reg_matrix::specs::Refusals::short_buffer))]
 pub fn is_short(job: LentJob<'_>, table: Table<'_>) -> bool
     ensures { result ≡ short_buffer load_limits (length job.entry.j64.now ∷ length job.entry.j32.now ∷ length job.entry.j16.now ∷ length job.entry.j8.now ∷ length job.entry.jf.now ∷ length table.entry.ends.now ∷ length table.entry.rests.now ∷ []) }
 {
-    job.j64.len() < 576
-        || job.j32.len() < 1536
-        || job.j16.len() < 2067
-        || job.j8.len() < 2560
-        || job.jf.len() < 1536
-        || table.ends.len() < 2560
-        || table.rests.len() < 2560
+    job.is_short() || table.is_short()
 }
 
 // Zeros where a job is laid out, but for its fixed uses.

@@ -9,20 +9,17 @@ use fixed_reader::FixedList;
 use lent::at;
 use table_words::buffers::TableMut;
 
-// The table and its fixed uses with the first n of the reservations, and nothing else.
-pub fn reserve_all(table: &mut TableMut<'_>, uses: &mut [u64], fixed: FixedList<'_>, n: usize)
+// The table and its fixed uses with the reservations, and nothing else. By number: each of the four lists may have fewer than `count`.
+pub fn reserve_all(table: &mut TableMut<'_>, uses: &mut [u64], fixed: FixedList<'_>)
     ensures same { SameTable table.old table.new }
-    ensures after { lain table.new.ends.now table.new.rests.now uses.new ≡ reserving_all fixed.entry.units.now fixed.entry.froms.now fixed.entry.tos.now fixed.entry.uses.now n (cleared (lain table.old.ends.now table.old.rests.now uses.old)) }
+    ensures after { lain table.new.ends.now table.new.rests.now uses.new ≡ reserving_all fixed.entry.units.now fixed.entry.froms.now fixed.entry.tos.now fixed.entry.uses.now fixed.entry.count (cleared (lain table.old.ends.now table.old.rests.now uses.old)) }
 {
     clear(table, uses);
-    for i in 0..n {
-        reserve_fixed(
-            table,
-            uses,
-            at(fixed.units, i),
-            at(fixed.froms, i),
-            at(fixed.tos, i),
-            at(fixed.uses, i),
-        );
+    for i in 0..fixed.count {
+        let unit = at(fixed.units, i);
+        let from = at(fixed.froms, i);
+        let to = at(fixed.tos, i);
+        let number = at(fixed.uses, i);
+        reserve_fixed(table, uses, unit, from, to, number);
     }
 }

@@ -1,2 +1,3 @@
+pub mod FirstSegments
 pub mod Places
 pub mod WholeTests

@@ -1,21 +1,21 @@
--- Loops over places: the rest from here is the whole. Assumes nothing.
-use Prim.Native.Nat.{ℕ, suc, ◌+◌, ◌-◌, ◌≤◌, ◌<◌}
+-- Tests and loops over places. Assumes nothing.
+use Prim.Native.Nat.{ℕ, zero, suc, ◌+◌, ◌-◌, ◌≤◌, ◌<◌}
+use native.Mathlib.Numerals.{add-one}
 use native.Mathlib.Omega.{arith}
 use mathlib.Core.Path.{◌≡◌, refl, ap, ◌∙◌}
-use mathlib.Core.Bool.{Bool, false, ◌||◌}
+use mathlib.Core.Bool.{Bool, ◌||◌}
 use mathlib.Core.List.{List, [], ◌∷◌}
 use lib.ListN.{length, get_or}
 use Rattle.reg_matrix.specs.Lists.{any, any_pair, foldl, count}
 use Rattle.reg_matrix.proofs.Places.{count_more, count_end, any_at}
 
-module _ (p : ℕ → ℕ → Bool) (n i : ℕ) where
-  pub pair_more : i < n → any_pair p (count i (n - i)) ≡ (any (p i) (count (i + 1) (n - (i + 1))) || any_pair p (count (i + 1) (n - (i + 1))))
-  unfolding any_pair
-  pair_more h = rw (count_more n i h)
-
-  pub pair_end : n ≤ i → any_pair p (count i (n - i)) ≡ false
-  unfolding any_pair
-  pair_end h = rw (count_end n i h)
+-- two places below n pass a test where some place passes one of those behind it
+pub any_behind : (p : ℕ → ℕ → Bool) (n i k : ℕ) → n - i ≡ k → any (λ m. any (p m) (count (m + 1) (n - (m + 1)))) (count i k) ≡ any_pair p (count i k)
+unfolding any any_pair count
+any_behind p n i zero e = refl
+any_behind p n i (suc k) e =
+    let e' : n - suc i ≡ k = omega arith in
+    rw (add-one i, e') (ap (λ (b : Bool). any (p i) (count (suc i) k) || b) (any_behind p n (suc i) k e'))
 
 module _ {L : Type 0} (g : L → ℕ → L) (n i : ℕ) (l : L) where
   pub fold_more : i < n → foldl g l (count i (n - i)) ≡ foldl g (g l i) (count (i + 1) (n - (i + 1)))

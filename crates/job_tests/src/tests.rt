@@ -1,6 +1,6 @@
 // The tests of a whole job, over its decoded numbers: 10, 11 and 12 (document 01). Places are compared by total reads, so that nothing is asked
 // of the slices.
-ghost use Rattle.std.specs.Prelude.{◌≡◌, ℕ, ◌+◌, ◌-◌, ◌^◌, ◌<◌, Bool, get_or};
+ghost use Rattle.std.specs.Prelude.{◌≡◌, ℕ, ◌+◌, ◌-◌, ◌^◌, ◌<◌, Bool, get_or, length, take, drop};
 ghost use Rattle.reg_matrix.specs.Lists.{any, any_pair, count};
 ghost use Rattle.reg_matrix.specs.Refused.{number_in};
 ghost use Rattle.job_parts.specs.Lent.{slices_of};
@@ -18,12 +18,12 @@ fn any_place<F: Fn(usize) -> bool>(from: usize, to: usize, test: F) -> bool
     requires { (k : ℕ) → k < to → F.pre test k }
     ensures { (p : ℕ → Bool) → ((k : ℕ) (b : Bool) → F.post test k b → b ≡ p k) → result ≡ any p (count from (to - from)) }
 {
-    for k in from..to {
-        if test(k) {
-            return true;
-        }
-    }
-    false
+    (from..to).any(
+        |k: usize| -> bool
+            requires { F.pre test k }
+            ensures { F.post test k result }
+        { test(k) },
+    )
 }
 
 // Whether two places from `from` to the one before `to`, the earlier first, pass the test.
@@ -31,16 +31,23 @@ fn any_two_places<F: Fn(usize, usize) -> bool>(from: usize, to: usize, test: F) 
     requires { (i k : ℕ) → F.pre test i k }
     ensures { (p : ℕ → ℕ → Bool) → ((i k : ℕ) (b : Bool) → F.post test i k b → b ≡ p i k) → result ≡ any_pair p (count from (to - from)) }
 {
-    for i in from..to {
-        let later = |k: usize| -> bool
-            requires { F.pre test i k }
-            ensures { F.post test i k result }
-        { test(i, k) };
-        if any_place(i + 1, to, later) {
-            return true;
-        }
-    }
-    false
+    any_place(
+        from,
+        to,
+        |i: usize| -> bool
+            requires { (i + 1 < 2 ^ 64) × ((k : ℕ) → F.pre test i k) }
+            ensures { (p : ℕ → ℕ → Bool) → ((i k : ℕ) (b : Bool) → F.post test i k b → b ≡ p i k) → result ≡ any (p i) (count (i + 1) (to - (i + 1))) }
+        {
+            any_place(
+                i + 1,
+                to,
+                |k: usize| -> bool
+                    requires { F.pre test i k }
+                    ensures { F.post test i k result }
+                { test(i, k) },
+            )
+        },
+    )
 }
 
 // Two of the first n registers have the same map of units.
@@ -56,7 +63,8 @@ pub fn same_map(maps: &[u64], n: usize) -> bool
     )
 }
 
-// A number stands at two places from `from` to the one before `to`.
+// A number stands at two places from `from` to the one before `to`. One function with `same_map` would be no plainer: `==` of any type promises that
+// type's own equality, and `equal_at` is that of numbers.
 fn number_repeats(list: &[u8], from: usize, to: usize) -> bool
     ensures { result ≡ any_pair (equal_at list.now) (count from (to - from)) }
 {
@@ -104,13 +112,13 @@ fn crosses_use(u: u32, a: u32, b: u32, segment: ValueSegment) -> bool
         && (a < segment.from && segment.from < b || a < segment.to && segment.to < b)
 }
 
-// The segment crosses one of the first n fixed reservations.
-fn crosses_one(fixed: FixedList<'_>, n: usize, segment: ValueSegment) -> bool
-    ensures { result ≡ any (λ k. crosses (segment.value + 1) segment.from segment.to (get_or fixed.entry.froms.now k 0) (get_or fixed.entry.tos.now k 0) (get_or fixed.entry.uses.now k 0)) (count 0 n) }
+// The segment crosses one of the fixed reservations.
+fn crosses_one(fixed: FixedList<'_>, segment: ValueSegment) -> bool
+    ensures { result ≡ any (λ k. crosses (segment.value + 1) segment.from segment.to (get_or fixed.entry.froms.now k 0) (get_or fixed.entry.tos.now k 0) (get_or fixed.entry.uses.now k 0)) (count 0 fixed.entry.count) }
 {
     any_place(
         0,
-        n,
+        fixed.count,
         |k: usize| -> bool
             ensures { result ≡ crosses (segment.value + 1) segment.from segment.to (get_or fixed.entry.froms.now k 0) (get_or fixed.entry.tos.now k 0) (get_or fixed.entry.uses.now k 0) }
         {
@@ -124,29 +132,42 @@ fn crosses_one(fixed: FixedList<'_>, n: usize, segment: ValueSegment) -> bool
     )
 }
 
-// One of the first m segments crosses one of the first n fixed reservations.
-pub fn use_crossed(segments: Segments<'_>, m: usize, fixed: FixedList<'_>, n: usize) -> bool
-    ensures { result ≡ any (crosses_at segments.entry.froms.now segments.entry.tos.now segments.entry.values.now fixed.entry.froms.now fixed.entry.tos.now fixed.entry.uses.now n) (count 0 m) }
+// One of the segments crosses one of the fixed reservations.
+pub fn use_crossed(segments: Segments<'_>, fixed: FixedList<'_>) -> bool
+    ensures { result ≡ any (crosses_at segments.entry.froms.now segments.entry.tos.now segments.entry.values.now fixed.entry.froms.now fixed.entry.tos.now fixed.entry.uses.now fixed.entry.count) (count 0 (length segments.entry.froms.now)) }
 {
     any_place(
         0,
-        m,
+        segments.count(),
         |i: usize| -> bool
-            ensures { result ≡ crosses_at segments.entry.froms.now segments.entry.tos.now segments.entry.values.now fixed.entry.froms.now fixed.entry.tos.now fixed.entry.uses.now n i }
-        { crosses_one(fixed, n, segments.segment(i)) },
+            ensures { result ≡ crosses_at segments.entry.froms.now segments.entry.tos.now segments.entry.values.now fixed.entry.froms.now fixed.entry.tos.now fixed.entry.uses.now fixed.entry.count i }
+        { crosses_one(fixed, segments.segment(i)) },
     )
 }
 
-// The first of the tests 10, 11 and 12 that refuses the decoded job, of m segments and n fixed reservations, which stand in slices of their own.
+// The first m segments of the decoded job, as many of them as its slices hold: those that are missing would cross nothing.
+fn first_segments(job: LentJob<'_>, m: usize) -> Segments<'_>
+    ensures froms { result.froms.now ≡ take m job.entry.j32.now }
+    ensures tos { result.tos.now ≡ drop 512 job.entry.j32.now }
+    ensures values { result.values.now ≡ drop 529 job.entry.j16.now }
+{
+    Segments {
+        froms: job.j32.get(..m).unwrap_or(job.j32),
+        tos: from(job.j32, TOS),
+        values: from(job.j16, VALUES),
+    }
+}
+
+// The first of the tests 10, 11 and 12 that refuses the decoded job, of m segments, with its fixed reservations, which stand in slices of their own.
+// Job and header are not yet a `LoadedJob`, which is one that has passed these tests.
 #[tactic(auto, unfolding(crate::specs::Tests::job_refusal))]
 pub fn whole_refusal(
     job: LentJob<'_>,
     header: JobHeader,
     m: usize,
     fixed: FixedList<'_>,
-    n: usize,
 ) -> Result<(), Refusal>
-    ensures { number_in result ≡ job_refusal (slices_of job.entry) header m fixed.entry.froms.now fixed.entry.tos.now fixed.entry.uses.now n }
+    ensures { number_in result ≡ job_refusal (slices_of job.entry) header m fixed.entry.froms.now fixed.entry.tos.now fixed.entry.uses.now fixed.entry.count }
 {
     let (regs, classes, virt_regs) = (header.regs, header.classes, header.virt_regs);
     if same_map(job.j64, regs as usize) || register_repeats(job.j16, job.j8, classes as usize) {
@@ -159,12 +180,7 @@ pub fn whole_refusal(
     ) {
         return Err(Refusal::MixedSet);
     }
-    let segments = Segments {
-        froms: job.j32,
-        tos: from(job.j32, TOS),
-        values: from(job.j16, VALUES),
-    };
-    if use_crossed(segments, m, fixed, n) {
+    if use_crossed(first_segments(job, m), fixed) {
         return Err(Refusal::CutUse);
     }
     Ok(())

@@ -26,7 +26,8 @@ pub fn put<T: Copy>(s: &mut [T], i: usize, v: T)
     }
 }
 
-// Stores v at each place from `from` to the one before `to`.
+// Stores v at each place from `from` to the one before `to`. By number, since the slice may end before `to`; and the library's `fill`, of a part of
+// it, asks that a clone of v cannot fail, which `Copy` does not say.
 pub fn fill<T: Copy>(s: &mut [T], from: usize, to: usize, v: T)
     ensures { s.new ≡ sets s.old from (replicate (to - from) v) }
 {

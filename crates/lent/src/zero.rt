@@ -3,7 +3,8 @@ ghost use Rattle.std.specs.Prelude.{◌≡◌};
 ghost use Rattle.std.specs.Float.{binary32};
 ghost use Rattle.std.specs.Float.Ieee.{of_bits};
 
-// A type of numbers, with its zero. Each impl is its zero alone, so there is nothing left to share.
+// A type of numbers, with its zero. Each impl is its zero alone, so there is nothing left to share. The library's `Default` says by a predicate,
+// `is_default`, which values it may give, and the contracts that speak of `get_or` need the value itself.
 pub trait Zero: Copy {
     ghost zero: { Self };
 

@@ -1,47 +1,17 @@
--- The spare line's loops: what is left from here is the whole. Assumes nothing.
-use Prim.Native.Nat.{ℕ, suc, ◌+◌, ◌-◌, ◌^◌, ◌/◌, ◌%◌, ◌≤◌, ◌<◌}
+-- The spare line's loop: what is left from here is the whole. Assumes nothing.
+use Prim.Native.Nat.{ℕ, suc, ◌+◌, ◌-◌, ◌≤◌, ◌<◌}
 use native.Mathlib.Omega.{arith}
-use native.Mathlib.Nat.{sub-zero}
 use native.Mathlib.Numerals.{add-one}
 use mathlib.Core.Path.{◌≡◌, refl}
-use mathlib.Core.Logic.{◌≢◌}
-use mathlib.Core.List.{List, [], ◌++◌}
+use mathlib.Core.List.{[], ◌++◌}
 use mathlib.Core.Bool.{Bool, true, false, cond}
-use lib.ListN.{get_or}
-use borrow.Author.Tests.{eq-eqb, ne_eqb}
 use Rattle.std.specs.Prelude.{Result, Ok, Err}
 use Rattle.std.specs.Result.{result_unwrap_or}
 use Rattle.reg_matrix.specs.declared.Refusal.{Refusal}
 use Rattle.reg_matrix.specs.Refused.{numbered}
-use Rattle.reg_matrix.specs.Lists.{concat_map, filter, any, bit, count, keep}
+use Rattle.reg_matrix.specs.Lists.{concat_map, filter, count, keep}
 use Rattle.reg_matrix.specs.Lines.{number, sp}
-use Rattle.lines.specs.LineTexts.{is_register_unit, units_text}
-
--- ---- a unit of a register
-
-module _ (maps : List ℕ) (n u : ℕ) where
-  abbrev pub unit_from : ℕ → Bool
-  unit_from i = any (λ r. bit u (get_or maps r 0)) (count i (n - i))
-
-  pub unit_start : unit_from 0 ≡ is_register_unit maps n u
-  unfolding is_register_unit
-  unit_start = rw sub-zero
-
-  pub unit_here : (i : ℕ) → i < n → get_or maps i 0 / 2 ^ u % 2 ≡ 1 → unit_from i ≡ true
-  unfolding any count
-  unit_here i h q =
-      let e : n - i ≡ suc (n - (i + 1)) = omega arith in
-      rw (e, eq-eqb _ _ q)
-
-  pub unit_more : (i : ℕ) → i < n → get_or maps i 0 / 2 ^ u % 2 ≢ 1 → unit_from (i + 1) ≡ unit_from i
-  unfolding any count
-  unit_more i h q =
-      let e : n - i ≡ suc (n - (i + 1)) = omega arith in
-      rw (e, ne_eqb _ _ q, add-one i)
-
-  pub unit_end : (i : ℕ) → n ≤ i → unit_from i ≡ false
-  unfolding any count
-  unit_end i h = let e : n - i ≡ 0 = omega arith in rw e
+use Rattle.lines.specs.LineTexts.{units_text}
 
 -- ---- the units of the line
 

@@ -7,6 +7,7 @@ use Rattle.reg_matrix.specs.Questions.{spare_refusal}
 use Rattle.reg_matrix.specs.Refused.{or_refused}
 use Rattle.entries.specs.Moves.{words}
 use Rattle.unit_free.specs.Spare.{free_at, range}
+use Rattle.lines.specs.declared.LentSheet.{LentSheet}
 
 -- what is lent: the registers' maps of units, and the table's two slices
 pub record Lent : Type 0 where
@@ -16,6 +17,9 @@ pub record Lent : Type 0 where
 
 abbrev pub lent : List ℕ → List ℕ → List ℕ → Lent
 lent maps ends rests = record { maps = maps; ends = ends; rests = rests }
+
+abbrev pub sheet_of : LentSheet → Lent
+sheet_of s = lent s.maps.now s.table.ends.now s.table.rests.now
 
 -- ---- the lines
 

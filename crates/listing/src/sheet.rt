@@ -1,26 +1,17 @@
 // A walk through the sheet that carries its position by value from line to line (01, "The printed sheet").
 ghost use Rattle.std.specs.Prelude.{◌≡◌, ◌<◌};
-ghost use Rattle.reg_matrix.specs.Lines.{refused_line};
 ghost use Rattle.reg_matrix.specs.Refused.{numbered};
 ghost use Rattle.listing.specs.declared.Place.TheVariants.{Head};
-ghost use Rattle.texts.specs.Texts.{Stored};
-ghost use Rattle.lines.specs.LineTexts.{lent};
+ghost use Rattle.lines.specs.LineTexts.{sheet_of};
 ghost use Rattle.listing.specs.Walk.{spare_found, entry_found, virt_reg_found, found, moved as moved_to, Answered, AnsweredIfLong, number_at};
 
 use crate::{Listing, Place};
 use allocator::{Assignment, Ending};
 use job::JobHeader;
 use lent::at;
+use lines::LentSheet;
 use reg_matrix::Refusal;
-use table_words::buffers::Table;
 use table_words::words::entry_of;
-
-// The line `refused N` into a lent line, with its length where there is room for it, as in one of 256 bytes. What there is no room for is not stored.
-pub fn refused(n: u64, line: &mut [u8]) -> usize
-    ensures { Stored line.old 0 (refused_line n) line.new result }
-{
-    result_lines::refused_line(line, n)
-}
 
 impl Listing {
     // The position before the first line of the sheet.
@@ -52,16 +43,11 @@ impl Listing {
     }
 
     #[tactic(auto, using(crate::proofs::WalkLaws::told, crate::proofs::LineLaws::spare_room))]
-    fn next_free_units(
-        self,
-        maps: &[u64],
-        table: Table<'_>,
-        line: &mut [u8; 256],
-    ) -> Option<(usize, Listing)>
-        ensures { Answered self (spare_found self.header.probe self.header.regs (lent maps.now table.entry.ends.now table.entry.rests.now)) line.old line.new result }
+    fn next_free_units(self, sheet: LentSheet<'_>, line: &mut [u8; 256]) -> Option<(usize, Listing)>
+        ensures { Answered self (spare_found self.header.probe self.header.regs (sheet_of sheet.entry)) line.old line.new result }
     {
         let (from, to) = self.header.probe?;
-        let n = lines::free_units_line(line, maps, self.header.regs, table, from, to);
+        let n = lines::free_units_line(line, sheet, self.header.regs, from, to);
         Some((n, self.moved(Place::End)))
     }
 
@@ -69,20 +55,19 @@ impl Listing {
     fn next_entry(
         self,
         i: usize,
-        maps: &[u64],
-        table: Table<'_>,
+        sheet: LentSheet<'_>,
         line: &mut [u8; 256],
     ) -> Option<(usize, Listing)>
-        ensures { Answered self (entry_found i self.header (lent maps.now table.entry.ends.now table.entry.rests.now)) line.old line.new result }
+        ensures { Answered self (entry_found i self.header (sheet_of sheet.entry)) line.old line.new result }
     {
         if 2560 <= i {
-            return self.next_free_units(maps, table, line);
+            return self.next_free_units(sheet, line);
         }
-        let end = at(table.ends, i);
+        let end = at(sheet.table.ends, i);
         if end == 0xFFFF_FFFF_FFFF_FFFF {
-            return self.next_free_units(maps, table, line);
+            return self.next_free_units(sheet, line);
         }
-        let n = lines::entry_line(line, entry_of(end, at(table.rests, i)));
+        let n = lines::entry_line(line, entry_of(end, at(sheet.table.rests, i)));
         Some((n, self.moved(Place::Entry(i + 1))))
     }
 
@@ -91,14 +76,13 @@ impl Listing {
         self,
         v: u16,
         assignment: Assignment,
-        maps: &[u64],
-        table: Table<'_>,
+        sheet: LentSheet<'_>,
         line: &mut [u8; 256],
     ) -> Option<(usize, Listing)>
-        ensures { Answered self (virt_reg_found v assignment self.header (lent maps.now table.entry.ends.now table.entry.rests.now)) line.old line.new result }
+        ensures { Answered self (virt_reg_found v assignment self.header (sheet_of sheet.entry)) line.old line.new result }
     {
         if self.header.virt_regs <= v {
-            return self.next_entry(0, maps, table, line);
+            return self.next_entry(0, sheet, line);
         }
         let n = result_lines::standing_line(line, v, assignment);
         Some((n, self.moved(Place::VirtReg(v + 1))))
@@ -108,38 +92,35 @@ impl Listing {
     fn next_line(
         self,
         assignment: Assignment,
-        maps: &[u64],
-        table: Table<'_>,
+        sheet: LentSheet<'_>,
         line: &mut [u8; 256],
     ) -> Option<(usize, Listing)>
-        ensures { Answered self (found self assignment (lent maps.now table.entry.ends.now table.entry.rests.now)) line.old line.new result }
+        ensures { Answered self (found self assignment (sheet_of sheet.entry)) line.old line.new result }
     {
         match self.place {
             Place::Head => {
                 let n = result_lines::end_line(line, self.ending, self.dequeues);
                 Some((n, self.moved(Place::VirtReg(0))))
             }
-            Place::VirtReg(v) => self.next_virt_reg(v, assignment, maps, table, line),
-            Place::Entry(i) => self.next_entry(i, maps, table, line),
+            Place::VirtReg(v) => self.next_virt_reg(v, assignment, sheet, line),
+            Place::Entry(i) => self.next_entry(i, sheet, line),
             Place::End => None,
         }
     }
 
     // Stores the next line of the sheet from the front of the lent line, and answers its length and the position after it, or that there is none.
-    // `assignment` is the record of the virtual register `number()`; `maps` are the registers' maps of units. Refused with 15 where the lent line
-    // is below 256 bytes.
+    // `assignment` is the record of the virtual register `number()`. Refused with 15 where the lent line is below 256 bytes.
     pub fn next(
         self,
         assignment: Assignment,
-        maps: &[u64],
-        table: Table<'_>,
+        sheet: LentSheet<'_>,
         line: &mut [u8],
     ) -> Result<Option<(usize, Listing)>, Refusal>
-        ensures { AnsweredIfLong self (found self assignment (lent maps.now table.entry.ends.now table.entry.rests.now)) line.old line.new (numbered result) }
+        ensures { AnsweredIfLong self (found self assignment (sheet_of sheet.entry)) line.old line.new (numbered result) }
     {
         match line.first_chunk_mut::<256>() {
             None => Err(Refusal::ShortBuffer),
-            Some(front) => Ok(self.next_line(assignment, maps, table, front)),
+            Some(front) => Ok(self.next_line(assignment, sheet, front)),
         }
     }
 }

@@ -40,7 +40,7 @@ fn tested(s: &[u8], fixed: &mut LentFixed<'_>) -> Result<(JobHeader, TableSizes)
     if at < s.len() {
         return Err(Refusal::Tail);
     }
-    whole_refusal(job.as_job(), h, z.segments, fixed.as_list(), z.fixed)?;
+    whole_refusal(job.as_job(), h, z.segments, fixed.as_list(z.fixed))?;
     Ok((h, z))
 }
 
@@ -66,7 +66,7 @@ fn load_sized(
     };
     let (h, z) = tested(s, &mut fixed)?;
     store_job(s, job);
-    reserve_all(table, &mut job.j64[USES..], fixed.as_list(), z.fixed);
+    reserve_all(table, &mut job.j64[USES..], fixed.as_list(z.fixed));
     Ok(h)
 }
 

@@ -1,7 +1,7 @@
 -- The starting tests of a check in the order of the code: 15, 8, 5 for no segments, then those of the ranges. Assumes nothing.
 use Prim.Native.Nat.{ℕ, ◌≤◌, ◌<◌}
 use native.Mathlib.Omega.{arith}
-use mathlib.Core.Path.{◌≡◌, refl}
+use mathlib.Core.Path.{◌≡◌, refl, ap}
 use mathlib.Core.List.{List, []}
 use mathlib.Core.Option.{Option, none, some}
 use mathlib.Core.Bool.{Bool, true, false, ◌||◌, cond}
@@ -49,6 +49,9 @@ tests fs ts vs lent regs n r =
     (first_of (short_buffer (check_limits (length fs)) lent) (leb (length regs) r || leb n r) (eqb (length fs) 0) (ranges_refusal 0 (segments_in fs ts [])))
 
 -- ---- a start by what the tests answered
+
+pub refused_by : (o : Option ℕ) (r : ℕ) (c : Cursor) → some r ≡ o → Err r ≡ or_refused o c
+refused_by o r c e = ap (λ (q : Option ℕ). or_refused q c) e
 
 module _
     (fs ts vs es regs lent : List ℕ) (n r : ℕ) (full short : Bool)

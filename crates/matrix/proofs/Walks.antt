@@ -1,6 +1,6 @@
 -- The walk of a check on any content: each step lessens what is left, so the reports to come are those of one step and the reports after it,
 -- and an answer tells the first of them. Assumes nothing.
-use Prim.Native.Nat.{ℕ, zero, suc, ◌+◌, ◌-◌, ◌≤◌, ◌<◌}
+use Prim.Native.Nat.{ℕ, zero, suc, ◌+◌, ◌-◌, ◌<◌}
 use native.Mathlib.Omega.{arith}
 use native.Mathlib.Nat.{mul-le-mul_right}
 use mathlib.Core.Path.{◌≡◌, refl, sym, ap, ◌∙◌, subst}
@@ -10,9 +10,9 @@ use lib.Dec.{ltb, leb, eqb}
 use lib.ListN.{length}
 use lib.Bits.{and_le_r}
 use lib.Count.{count_trailing_zeros}
-use borrow.Author.Tests.{leb-false, ltb-false, eqb-true, eqb-false}
+use borrow.Author.Tests.{leb-false, eqb-false}
 use Rattle.reg_matrix.specs.Layout.{max_entries, max_fixed}
-use Rattle.matrix.specs.Walk.{Lent, next_entry, next_segment, next_use, onward, under_entry, entered, meeting, entry_step, use_meeting, use_step, later_units, leave_unit, unit_step, step_of, left, emit, walk, remaining, answer, first_report, next_of, heard, Answered}
+use Rattle.matrix.specs.Walk.{Lent, next_entry, next_segment, next_use, onward, under_entry, entered, meeting, entry_step, use_meeting, use_step, meeting_step, later_units, leave_unit, unit_step, step_of, uses_left, left, emit, walk, remaining, answer, first_report, next_of, heard, Answered}
 use Rattle.reg_matrix.specs.declared.ValueSegment.{ValueSegment}
 use Rattle.reg_matrix.specs.declared.Entry.{Entry}
 use Rattle.std.specs.Prelude.{Option, Some, None}
@@ -37,23 +37,23 @@ module _ (W : Lent) where
   After c Ends = Unit {0}
 
   entry_less : (c : Cursor) → c.entry < max_entries → left W (next_entry c) < left W c
-  unfolding left
+  unfolding left uses_left
   entry_less c h = omega arith
 
   segment_less : (c : Cursor) → c.segment < length W.froms → left W (next_segment c) < left W c
-  unfolding left
+  unfolding left uses_left
   segment_less c h = omega arith
 
-  use_less : (c : Cursor) → c.inner ≤ max_fixed → left W (next_use c) < left W c
-  unfolding left
-  use_less c h = omega arith
+  use_less : (c : Cursor) (p : ℕ) → c.inner ≡ Some p → p < max_fixed → left W (next_use c p) < left W c
+  unfolding left uses_left
+  use_less c p q h = omega (arith, ap uses_left q)
 
-  under_less : (c : Cursor) (us : List ℕ) (u i : ℕ) → c.inner ≡ 0 → left W (under_entry us c u i) < left W c
-  unfolding left under_entry
-  under_less c us u i h = omega arith
+  under_less : (c : Cursor) (us : List ℕ) (u i : ℕ) → c.inner ≡ None → left W (under_entry us c u i) < left W c
+  unfolding left uses_left under_entry
+  under_less c us u i h = omega (arith, ap uses_left h)
 
   unit_less : (c : Cursor) (m : ℕ) (f : Bool) → m < c.units → left W (entered W.ends W.froms m f) < left W c
-  unfolding left entered
+  unfolding left uses_left entered
   unit_less c m f h = omega (arith, mul-le-mul_right (max_entries + length W.froms + 1) h)
 
   onward_less :
@@ -67,7 +67,7 @@ module _ (W : Lent) where
   onward_less c false e s h k = entry_less c k
 
   module _ (c : Cursor) (h : c.segment < length W.froms) (k : c.entry < max_entries) where
-    meeting_after : (us : List ℕ) (e : Entry) (s : ValueSegment) (r : Reservation) → c.inner ≡ 0 → After c (meeting us c e s r)
+    meeting_after : (us : List ℕ) (e : Entry) (s : ValueSegment) (r : Reservation) → c.inner ≡ None → After c (meeting us c e s r)
     unfolding meeting
     meeting_after us e s FixedDef z = onward_less c c.full e s h k
     meeting_after us e s (FixedUse x) z =
@@ -75,28 +75,33 @@ module _ (W : Lent) where
     meeting_after us e s (Held v None) z = onward_less c c.full e s h k
     meeting_after us e s (Held v (Some i)) z = under_less c us e.unit i z
 
-    entry_after : (us : List ℕ) (e : Entry) (s : ValueSegment) → c.inner ≡ 0 → After c (entry_step us c e s)
+    entry_after : (us : List ℕ) (e : Entry) (s : ValueSegment) → c.inner ≡ None → After c (entry_step us c e s)
     unfolding entry_step
     entry_after us e s z =
         cond_by (After c) (leb e.to s.from) _ _ (λ q. entry_less c k)
         (λ q. cond_by (After c) (leb s.to e.from) _ _ (λ p. segment_less c h) (λ p. meeting_after us e s e.reservation z))
 
-    use_meeting_after : (e : Entry) (s : ValueSegment) (f : Entry) (x : ℕ) → c.inner ≤ max_fixed → After c (use_meeting c e s f x)
+    use_meeting_after : (p : ℕ) (e : Entry) (s : ValueSegment) (f : Entry) (x : ℕ) → c.inner ≡ Some p → p < max_fixed → After c (use_meeting c p e s f x)
     unfolding use_meeting
-    use_meeting_after e s f x z =
+    use_meeting_after p e s f x y z =
         cond_by (After c) (eqb f.unit e.unit) _ _
         (λ q.
-        cond_by (After c) (leb s.to f.from) _ _ (λ p. onward_less c true e s h k)
-        (λ p.
-        cond_by (After c) (leb f.to s.from) _ _ (λ o. use_less c z)
-        (λ o. cond_by (After c) (eqb x s.value) _ _ (λ n. use_less c z) (λ n. use_less c z))))
+        cond_by (After c) (leb s.to f.from) _ _ (λ r. onward_less c true e s h k)
+        (λ r.
+        cond_by (After c) (leb f.to s.from) _ _ (λ o. use_less c p y z)
+        (λ o. cond_by (After c) (eqb x s.value) _ _ (λ n. use_less c p y z) (λ n. use_less c p y z))))
         (λ q. onward_less c true e s h k)
 
-    use_after : (us : List ℕ) (e : Entry) (s : ValueSegment) → After c (use_step us c e s)
+    use_after : (us : List ℕ) (p : ℕ) (e : Entry) (s : ValueSegment) → c.inner ≡ Some p → After c (use_step us c p e s)
     unfolding use_step
-    use_after us e s =
-        cond_by (After c) (ltb max_fixed c.inner) _ _ (λ q. onward_less c true e s h k)
-        (λ q. use_meeting_after e s _ _ (ltb-false max_fixed c.inner q))
+    use_after us p e s y =
+        cond_by (After c) (leb max_fixed p) _ _ (λ q. onward_less c true e s h k)
+        (λ q. use_meeting_after p e s _ _ y (leb-false max_fixed p q))
+
+    meeting_step_after : (us : List ℕ) (e : Entry) (s : ValueSegment) (o : Option ℕ) → c.inner ≡ o → After c (meeting_step us c e s o)
+    unfolding meeting_step
+    meeting_step_after us e s None y = entry_after us e s y
+    meeting_step_after us e s (Some p) y = use_after us p e s y
 
   leave_after : (c : Cursor) → (c.units ≡ 0 → ⊥) → After c (leave_unit W.ends W.froms c)
   unfolding leave_unit
@@ -117,8 +122,7 @@ module _ (W : Lent) where
       (λ o.
       let k = leb-false max_entries c.entry o in
       cond_by (After c) (eqb _ (count_trailing_zeros 64 c.units)) _ _
-      (λ n.
-      cond_by (After c) (eqb c.inner 0) _ _ (λ l. entry_after c h k W.uses _ _ (eqb-true c.inner 0 l)) (λ l. use_after c h k W.uses _ _))
+      (λ n. meeting_step_after c h k W.uses _ _ c.inner refl)
       (λ n. leave_after c z))))
 
   -- ---- how many steps are allowed changes nothing, where these are enough

@@ -42,13 +42,14 @@ entry_at W n = entry_of (get_or W.ends n 0) (get_or W.rests n 0)
 -- ---- from one position to the next
 
 abbrev pub next_entry : Cursor → Cursor
-next_entry c = record { units = c.units; segment = c.segment; entry = c.entry + 1; inner = 0; full = c.full }
+next_entry c = record { units = c.units; segment = c.segment; entry = c.entry + 1; inner = None; full = c.full }
 
 abbrev pub next_segment : Cursor → Cursor
-next_segment c = record { units = c.units; segment = c.segment + 1; entry = c.entry; inner = 0; full = c.full }
+next_segment c = record { units = c.units; segment = c.segment + 1; entry = c.entry; inner = None; full = c.full }
 
-abbrev pub next_use : Cursor → Cursor
-next_use c = record { units = c.units; segment = c.segment; entry = c.entry; inner = c.inner + 1; full = c.full }
+-- past the fixed use at place p
+abbrev pub next_use : Cursor → ℕ → Cursor
+next_use c p = record { units = c.units; segment = c.segment; entry = c.entry; inner = Some (p + 1); full = c.full }
 
 -- after an overlap: an entry that stays and ends past the segment meets the next segment too
 unfoldable pub onward : Bool → Cursor → Entry → ValueSegment → Cursor
@@ -57,7 +58,7 @@ onward stays c e s = cond stays (cond (ltb s.to e.to) (next_segment c) (next_ent
 -- at the fixed use number i of the entry's unit
 unfoldable pub under_entry : List ℕ → Cursor → ℕ → ℕ → Cursor
 under_entry uses c u i =
-    record { units = c.units; segment = c.segment; entry = c.entry; inner = place_of max_fixed uses (u * 2 ^ 48) + i + 1; full = c.full }
+    record { units = c.units; segment = c.segment; entry = c.entry; inner = Some (place_of max_fixed uses (u * 2 ^ 48) + i); full = c.full }
 
 -- at the first entry of the map's lowest unit that ends past the first segment's start
 unfoldable pub entered : List ℕ → List ℕ → ℕ → Bool → Cursor
@@ -66,7 +67,7 @@ entered ends froms m f =
       units = m;
       segment = 0;
       entry = place_of max_entries ends (count_trailing_zeros 64 m * 2 ^ 32 + get_or froms 0 0 + 1);
-      inner = 0;
+      inner = None;
       full = f;
     }
 
@@ -84,18 +85,22 @@ entry_step uses c e s =
     cond (leb e.to s.from) (Goes (next_entry c))
     (cond (leb s.to e.from) (Goes (next_segment c)) (meeting uses c e s e.reservation))
 
--- at a fixed use f of value x, under the entry e
-unfoldable pub use_meeting : Cursor → Entry → ValueSegment → Entry → ℕ → Move
-use_meeting c e s f x =
+-- at a fixed use f of value x, which stands at place p, under the entry e
+unfoldable pub use_meeting : Cursor → ℕ → Entry → ValueSegment → Entry → ℕ → Move
+use_meeting c p e s f x =
     cond (eqb f.unit e.unit)
     (cond (leb s.to f.from) (Goes (onward true c e s))
-    (cond (leb f.to s.from) (Goes (next_use c)) (cond (eqb x s.value) (Goes (next_use c)) (Meets (whole_use c.segment f) (next_use c)))))
+    (cond (leb f.to s.from) (Goes (next_use c p)) (cond (eqb x s.value) (Goes (next_use c p)) (Meets (whole_use c.segment f) (next_use c p)))))
     (Goes (onward true c e s))
 
-unfoldable pub use_step : List ℕ → Cursor → Entry → ValueSegment → Move
-use_step uses c e s =
-    cond (ltb max_fixed c.inner) (Goes (onward true c e s))
-    (use_meeting c e s (use_of (get_or uses (c.inner - 1) 0)) (get_or uses (c.inner - 1) 0 % 2 ^ 16))
+unfoldable pub use_step : List ℕ → Cursor → ℕ → Entry → ValueSegment → Move
+use_step uses c p e s =
+    cond (leb max_fixed p) (Goes (onward true c e s)) (use_meeting c p e s (use_of (get_or uses p 0)) (get_or uses p 0 % 2 ^ 16))
+
+-- at the entry itself, or at the fixed use under it that is next
+unfoldable pub meeting_step : List ℕ → Cursor → Entry → ValueSegment → Option ℕ → Move
+meeting_step uses c e s None = entry_step uses c e s
+meeting_step uses c e s (Some p) = use_step uses c p e s
 
 -- the map without its lowest unit
 abbrev pub later_units : ℕ → ℕ
@@ -106,7 +111,7 @@ leave_unit ends froms c = cond (eqb (later_units c.units) 0) Ends (Goes (entered
 
 unfoldable pub unit_step : Lent → Cursor → Entry → ValueSegment → Move
 unit_step W c e s =
-    cond (eqb e.unit (count_trailing_zeros 64 c.units)) (cond (eqb c.inner 0) (entry_step W.uses c e s) (use_step W.uses c e s))
+    cond (eqb e.unit (count_trailing_zeros 64 c.units)) (meeting_step W.uses c e s c.inner)
     (leave_unit W.ends W.froms c)
 
 unfoldable pub step_of : Lent → Cursor → Move
@@ -118,10 +123,15 @@ step_of W c =
 
 -- ---- the walk
 
+-- how many steps there are at most at an entry and a segment
+unfoldable pub uses_left : Option ℕ → ℕ
+uses_left None = max_fixed + 1
+uses_left (Some p) = max_fixed - p
+
 -- how far the walk has to go at most: each step lessens it
 unfoldable pub left : Lent → Cursor → ℕ
 left W c =
-    (c.units * (max_entries + length W.froms + 1) + (max_entries - c.entry) + (length W.froms - c.segment)) * 1024 + (max_fixed + 1 - c.inner)
+    (c.units * (max_entries + length W.froms + 1) + (max_entries - c.entry) + (length W.froms - c.segment)) * 1024 + uses_left c.inner
 
 -- the reports of f steps
 abbrev pub emit : Move → (Cursor → List Interference) → List Interference

@@ -12,7 +12,7 @@ use lent::at;
 use reg_matrix::{Interference, Refusal};
 use table_words::buffers::RegMatrix;
 use table_words::ranges::{short_buffers, start_refusal};
-use table_words::search::find;
+use table_words::search::first_past;
 use table_words::segments::SegmentList;
 use table_words::words::entry_of;
 
@@ -28,13 +28,13 @@ fn later_units(units: u64) -> u64
 pub fn enter<S: SegmentList>(ends: &[u64], segments: S, units: u64, full: bool) -> Cursor
     ensures { result ≡ entered ends.now (S.froms segments) units full }
 {
-    let unit = units.trailing_zeros() as u64;
-    let from = segments.segment(0).from as u64;
+    let unit = units.trailing_zeros() as u8;
+    let from = segments.segment(0).from;
     Cursor {
         units,
         segment: 0,
-        entry: find(ends, unit * 0x1_0000_0000 + from + 1),
-        inner: 0,
+        entry: first_past(ends, unit, from),
+        inner: None,
         full,
     }
 }
@@ -55,7 +55,7 @@ impl Cursor {
     }
 
     // One step: at an entry of the current unit and a segment, or else to the next unit.
-    #[tactic(auto, unfolding(crate::specs::Walk::step_of, crate::specs::Walk::unit_step))]
+    #[tactic(auto, unfolding(crate::specs::Walk::step_of, crate::specs::Walk::unit_step, crate::specs::Walk::meeting_step))]
     fn step<S: SegmentList>(self, matrix: RegMatrix<'_>, segments: S) -> Move
         ensures { result ≡ step_of (lent_in matrix.entry (S.froms segments) (S.tos segments) (S.values segments)) self }
     {
@@ -77,15 +77,15 @@ impl Cursor {
             entry,
             segment: segments.segment(n),
         };
-        if self.inner == 0 {
-            meeting.entry_step(matrix.uses)
-        } else {
-            meeting.use_step(matrix.uses)
+        match self.inner {
+            None => meeting.entry_step(matrix.uses),
+            Some(place) => meeting.use_step(matrix.uses, place),
         }
     }
 
     // The next report from this position on, with the position after it, or the check's end. It asks nothing of what is lent: past the
-    // end of a slice it reads 0.
+    // end of a slice it reads 0. A struct of the matrix and the segments would be no plainer: one matrix serves all checks of a search or a
+    // script, the segments are those of one virtual register, and each check would make such a struct of them.
     pub fn next<S: SegmentList>(
         self,
         matrix: RegMatrix<'_>,
@@ -105,19 +105,29 @@ impl Cursor {
     }
 }
 
-// Starts a check of the register numbered `reg` among the first `count` maps of units, in the full or the short form, against these
-// segments. It tests 15, 8, 5, 6, 7 in this order, and gives the refusal or the position at the start.
+// Which register a check asks about, and how: the one numbered `reg` among the first `count` of the registers' maps of units, in the full or
+// the short form.
+#[derive(Clone, Copy)]
+pub struct InterferenceQuery<'a> {
+    pub regs: &'a [u64],
+    pub count: usize,
+    pub reg: usize,
+    pub full: bool,
+}
+
+// Starts a check of a register against these segments. It tests 15, 8, 5, 6, 7 in this order, and gives the refusal or the position at the
+// start.
 pub fn check_interference<S: SegmentList>(
-    regs: &[u64],
-    count: usize,
-    reg: usize,
-    full: bool,
+    query: InterferenceQuery<'_>,
     matrix: RegMatrix<'_>,
     segments: S,
 ) -> Result<Cursor, Refusal>
-    ensures { numbered result ≡ or_refused (check_refusal (length regs.now ∷ length matrix.entry.uses.now ∷ length matrix.entry.table.ends.now ∷ length matrix.entry.table.rests.now ∷ length (S.froms segments) ∷ length (S.tos segments) ∷ length (S.values segments) ∷ []) (take count regs.now) reg (segments_in (S.froms segments) (S.tos segments) (S.values segments))) (entered matrix.entry.table.ends.now (S.froms segments) (get_or regs.now reg 0) full) }
+    ensures { numbered result ≡ or_refused (check_refusal (length query.entry.regs.now ∷ length matrix.entry.uses.now ∷ length matrix.entry.table.ends.now ∷ length matrix.entry.table.rests.now ∷ length (S.froms segments) ∷ length (S.tos segments) ∷ length (S.values segments) ∷ []) (take query.entry.count query.entry.regs.now) query.entry.reg (segments_in (S.froms segments) (S.tos segments) (S.values segments))) (entered matrix.entry.table.ends.now (S.froms segments) (get_or query.entry.regs.now query.entry.reg 0) query.entry.full) }
 {
-    let short = short_buffers(regs, matrix, segments);
-    start_refusal(short, regs.len(), count, reg, segments)?;
-    Ok(enter(matrix.table.ends, segments, at(regs, reg), full))
+    if short_buffers(query.regs, matrix, segments) {
+        return Err(Refusal::ShortBuffer);
+    }
+    start_refusal(query.regs.len(), query.count, query.reg, segments)?;
+    let units = at(query.regs, query.reg);
+    Ok(enter(matrix.table.ends, segments, units, query.full))
 }

@@ -9,14 +9,13 @@ pub mod check;
 mod meeting;
 
 // A position of a check: the units of the register's map that are still to be walked, the current one the lowest; the segment and the
-// entry that are compared next; 0, or one more than the place of the next fixed use under that entry; and which form is asked for.
-// `inner` would be no plainer as an `Option`: the walk's measure (`left` of specs/Walk.antt) counts with it, 0 before the first use.
+// entry that are compared next; once that entry is reported, the place of the next fixed use under it; and which form is asked for.
 #[derive(Clone, Copy)]
 pub struct Cursor {
     pub units: u64,
     pub segment: usize,
     pub entry: usize,
-    pub inner: usize,
+    pub inner: Option<usize>,
     pub full: bool,
 }
 

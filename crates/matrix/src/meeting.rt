@@ -1,10 +1,10 @@
 // What a check finds where a segment meets an entry of the current unit, or a fixed use under it (specs/Walk.antt).
-ghost use Rattle.std.specs.Prelude.{◌≡◌, ◌≤◌, ◌<◌};
+ghost use Rattle.std.specs.Prelude.{◌≡◌, ◌≤◌, ◌<◌, ◌%◌, ◌^◌};
 
 use crate::{Cursor, Move};
 use lent::at;
 use reg_matrix::{Entry, Interference, InterferenceKind, Reservation, ValueSegment};
-use table_words::search::search;
+use table_words::search::first_use;
 use table_words::words::use_of;
 
 // A position with the entry and the segment there: neither is past the last number, so the walk goes on behind either.
@@ -27,7 +27,7 @@ impl Cursor {
     {
         Cursor {
             entry: self.entry + 1,
-            inner: 0,
+            inner: None,
             ..self
         }
     }
@@ -38,17 +38,18 @@ impl Cursor {
     {
         Cursor {
             segment: self.segment + 1,
-            inner: 0,
+            inner: None,
             ..self
         }
     }
 
-    fn next_use(self) -> Cursor
-        requires { self.inner ≤ 512 }
-        ensures { result ≡ next_use self }
+    // Past the fixed use at this place.
+    fn next_use(self, place: usize) -> Cursor
+        requires { place < 512 }
+        ensures { result ≡ next_use self place }
     {
         Cursor {
-            inner: self.inner + 1,
+            inner: Some(place + 1),
             ..self
         }
     }
@@ -58,9 +59,8 @@ impl Cursor {
     fn under_entry(self, uses: &[u64], unit: u8, i: u16) -> Cursor
         ensures { result ≡ under_entry uses.now self unit i }
     {
-        let first = search(uses, 512, unit as u64 * 0x1_0000_0000_0000);
         Cursor {
-            inner: first + i as usize + 1,
+            inner: Some(first_use(uses, unit) + i as usize),
             ..self
         }
     }
@@ -68,6 +68,7 @@ impl Cursor {
 
 impl Meeting {
     ghost use Rattle.reg_matrix.specs.Check.{shared_part, whole_use};
+    ghost use Rattle.reg_matrix.specs.Layout.{use_of};
     ghost use Rattle.matrix.specs.Walk.{onward, meeting, entry_step, use_meeting, use_step};
 
     // What the segment and the entry share.
@@ -135,7 +136,7 @@ impl Meeting {
 
     // One step at the entry itself.
     #[tactic(auto, unfolding(crate::specs::Walk::entry_step))]
-    pub fn entry_step(self, uses: &[u64]) -> Move
+    pub(crate) fn entry_step(self, uses: &[u64]) -> Move
         ensures { result ≡ entry_step uses.now self.cursor self.entry self.segment }
     {
         if self.entry.to <= self.segment.from {
@@ -147,12 +148,13 @@ impl Meeting {
         self.meeting(uses)
     }
 
-    // A fixed use under a held entry is reported whole, even past the entry's end, unless it has the segment's own value.
+    // The fixed use of this number, under a held entry, is reported whole, even past the entry's end, unless it has the segment's own value.
     #[tactic(auto, unfolding(crate::specs::Walk::use_meeting))]
-    fn use_meeting(self, f: Entry, value: u16) -> Move
-        requires { self.cursor.inner ≤ 512 }
-        ensures { result ≡ use_meeting self.cursor self.entry self.segment f value }
+    fn use_meeting(self, place: usize, number: u64) -> Move
+        requires { place < 512 }
+        ensures { result ≡ use_meeting self.cursor place self.entry self.segment (use_of number) (number % 2 ^ 16) }
     {
+        let f = use_of(number);
         if f.unit != self.entry.unit {
             return Move::Goes(self.onward(true));
         }
@@ -160,25 +162,22 @@ impl Meeting {
             return Move::Goes(self.onward(true));
         }
         if f.to <= self.segment.from {
-            return Move::Goes(self.cursor.next_use());
+            return Move::Goes(self.cursor.next_use(place));
         }
-        if value == self.segment.value {
-            return Move::Goes(self.cursor.next_use());
+        if (number % 0x1_0000) as u16 == self.segment.value {
+            return Move::Goes(self.cursor.next_use(place));
         }
-        Move::Meets(self.whole_use(f), self.cursor.next_use())
+        Move::Meets(self.whole_use(f), self.cursor.next_use(place))
     }
 
-    // One step at the next fixed use under the entry.
+    // One step at the next fixed use under the entry, which stands at this place.
     #[tactic(auto, unfolding(crate::specs::Walk::use_step))]
-    pub fn use_step(self, uses: &[u64]) -> Move
-        requires { 0 < self.cursor.inner }
-        ensures { result ≡ use_step uses.now self.cursor self.entry self.segment }
+    pub(crate) fn use_step(self, uses: &[u64], place: usize) -> Move
+        ensures { result ≡ use_step uses.now self.cursor place self.entry self.segment }
     {
-        let inner = self.cursor.inner;
-        if 512 < inner {
+        if 512 <= place {
             return Move::Goes(self.onward(true));
         }
-        let w = at(uses, inner - 1);
-        self.use_meeting(use_of(w), (w % 0x1_0000) as u16)
+        self.use_meeting(place, at(uses, place))
     }
 }

@@ -1,5 +1,5 @@
-// Wide numbers cut to the greatest of a narrower type, which no job knows: no virtual register has the number 65,535 and no register 255, and no weight
-// that is a number has the bits 0xFFFFFFFF.
+// Wide numbers cut to the greatest of a narrower type, which no job knows: no virtual register has the number 65,535 and no register 255, and no
+// weight that is a number has the bits 0xFFFFFFFF.
 #![tactic(auto)]
 
 ghost use Rattle.std.specs.Prelude.{◌≡◌, ℕ};

@@ -16,30 +16,22 @@ pub struct AllocationOrder<'a> {
 }
 
 impl<'a> AllocationOrder<'a> {
-    ghost use Rattle.std.specs.Prelude.{◌≡◌, ◌+◌, [], length};
+    ghost use Rattle.std.specs.Prelude.{◌≡◌, ◌+◌, length};
     ghost use Rattle.allocator.specs.Order.{has_reg, highest_preference};
     ghost use Rattle.order.specs.OrderWalk.{hints_of, last_of, hinted_of, offer_at};
     ghost use Rattle.order.specs.Hinted.{listed, hinted_by};
 
-    // The registers of a class, and no hinted candidates.
-    pub fn of_class(class: &'a [u8]) -> AllocationOrder<'a>
-        ensures hinted { hinted_by result ≡ [] }
+    // The hinted candidates of a virtual register with these hints, of which 64 count, where a register was last given to its set; then the class.
+    pub fn new(class: &'a [u8], hints: Hints<'_>, last: Option<u8>) -> AllocationOrder<'a>
+        ensures hinted { hinted_by result ≡ hinted_of (hints_of hints.entry.regs.now hints.entry.weights.now) (last_of last) }
         ensures class { result.class.now ≡ class.now }
     {
+        let hinted = HintedRegs::new(hints, last);
         AllocationOrder {
-            hinted: HintedRegs::none(),
-            marks: 0,
+            marks: hinted.marks(),
+            hinted,
             class,
         }
-    }
-
-    // Puts in front the hinted candidates of a virtual register with these hints, of which 64 count, where a register was last given to its set.
-    pub fn compute(&mut self, hints: Hints<'_>, last: Option<u8>)
-        ensures hinted { hinted_by self.new ≡ hinted_of (hints_of hints.entry.regs.now hints.entry.weights.now) (last_of last) }
-        ensures class { self.new.class.now ≡ self.old.class.now }
-    {
-        self.hinted.compute(hints, last);
-        self.marks = self.hinted.marks();
     }
 
     // How many places the order has.
@@ -58,8 +50,9 @@ impl<'a> AllocationOrder<'a> {
         self.hinted.has_reg(reg)
     }
 
-    // The candidate at a place: the hinted ones, then the class with weight 0. There is none where a register of the class was hinted, and none past the
-    // end.
+    // The candidate at a place: the hinted ones, then the class with weight 0. There is none where a register of the class was hinted, and none past
+    // the end. An iterator is no plainer: one with `impl Iterator` owes laws of its own (`can_next`, `next_gives`, `remaining`), of a chain with a
+    // filter the type cannot be written, since the filter is a closure, and what returns an `-> impl Iterator` gets no proof.
     pub fn candidate(&self, place: usize) -> Option<CandidateReg>
         ensures { result ≡ offer_at (hinted_by self.now) self.now.class.now place }
     {
@@ -84,9 +77,9 @@ impl<'a> AllocationOrder<'a> {
     pub fn highest_preference(&self) -> f32
         ensures { result ≡ highest_preference (hinted_by self.now) }
     {
-        if self.hinted.count == 0 {
-            return 0.0;
-        }
-        self.hinted.regs[0].preference_weight
+        self.hinted
+            .as_slice()
+            .first()
+            .map_or(0.0, |c| c.preference_weight)
     }
 }

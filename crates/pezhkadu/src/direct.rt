@@ -10,18 +10,19 @@ ghost use Rattle.calls.specs.Calling.{sizes_of};
 ghost use Rattle.words.specs.Words.{words_short};
 ghost use Rattle.pezhkadu.specs.Calling.{Called, EvictCalled};
 
-use calls::direct::{Eviction, Placement};
+use call_tests::Placement;
+use calls::direct::{Eviction, place};
 use job_parts::lent_job::{LentJob, LoadedJob};
 use lent::put;
 use narrow::Narrow;
 use record_words::{put_record, record_at};
 use reg_matrix::Refusal;
 use table_words::buffers::LentState;
-use words::header::{header_of, short_words};
+use words::header::{LentWords, header_of, short_words};
 
-// Places the virtual register v in the register, with the weight of these binary32 bits. A refusal changes nothing: 15 where a slice is short, 8 where
-// there is no such number or register or v may not have it, 9 where the weight is infinite, no number or has the sign, 13 where v is not unassigned, 14
-// where the check reports anything.
+// Places the virtual register v in the register, with the weight of these binary32 bits. A refusal changes nothing: 15 where a slice is short, 8
+// where there is no such number or register or v may not have it, 9 where the weight is infinite, no number or has the sign, 13 where v is not
+// unassigned, 14 where the check reports anything.
 pub fn pezhkadu_assign(
     header: &[u64],
     records: &mut [u64],
@@ -35,7 +36,7 @@ pub fn pezhkadu_assign(
     ensures same { SameState state.old state.new }
     ensures called { Called (words_short header.now records.old) header.now (slices_of job.entry) (placing (sizes_of (slices_of job.entry) (state_in state.old last.old)) v reg (of_bits binary32 weight)) (state_in state.old last.old) records.old (state_in state.new last.new) records.new (number_in result) }
 {
-    if short_words(header, records) {
+    if short_words(LentWords { header, records }) {
         return Err(Refusal::ShortBuffer);
     }
     let v = u16::cut(v);
@@ -47,7 +48,7 @@ pub fn pezhkadu_assign(
         job,
     };
     let a = record_at(records, v);
-    let after = asked.place(a, loaded, state, last)?;
+    let after = place(asked, a, loaded, state, last)?;
     put_record(records, v, after);
     Ok(())
 }
@@ -66,10 +67,10 @@ pub fn pezhkadu_evict(
     ensures same { SameState state.old state.new }
     ensures called { EvictCalled header.now (slices_of job.entry) v (state_in state.old last.now) records.old answer.old (state_in state.new last.now) records.new answer.new (number_in result) }
 {
-    if short_words(header, records) {
+    if short_words(LentWords { header, records }) {
         return Err(Refusal::ShortBuffer);
     }
-    if answer.len() < 1 {
+    if answer.is_empty() {
         return Err(Refusal::ShortBuffer);
     }
     let v = u16::cut(v);

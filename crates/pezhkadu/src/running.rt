@@ -32,7 +32,8 @@ pub fn pezhkadu_run(
     if answer.len() < 2 {
         return Err(Refusal::ShortBuffer);
     }
-    if short_buffers(job, state, last) {
+    let lent = &*state;
+    if short_buffers(job, lent.as_table(), lent.queue, last) {
         return Err(Refusal::ShortBuffer);
     }
     renew(records);

@@ -1,6 +1,6 @@
 // The stage as a static library for firmware: what C and Rust call by these names. Each function calls the one of its name in the crate pezhkadu, and
-// promises the same; a refusal is answered by its number, since C reads numbers. The parameters are flat, as the C interface passes numbers and slices
-// only.
+// promises the same; a refusal is answered by its number, since C reads numbers. The parameters are flat, as the C interface passes numbers and
+// slices only.
 #![tactic(auto)]
 
 ghost use Rattle.std.specs.Prelude.{◌≡◌};

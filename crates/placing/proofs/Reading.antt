@@ -13,10 +13,10 @@ use Rattle.reg_matrix.specs.Lists.{padded}
 use Rattle.reg_matrix.specs.Table.{Table, fixed_uses, on_unit}
 use Rattle.reg_matrix.specs.Layout.{max_entries, max_fixed, greatest, end_word, rest_word, use_word, end_words, rest_words, use_words, entry_of}
 use Rattle.table_words.specs.Segments.{segment_at}
-use Rattle.matrix.specs.Walk.{Lent, entry_at, entry_step, use_step, leave_unit, unit_step, step_of}
+use Rattle.matrix.specs.Walk.{Lent, entry_at, entry_step, use_step, meeting_step, leave_unit, unit_step, step_of}
 use Rattle.reg_matrix.specs.declared.ValueSegment.{ValueSegment}
 use Rattle.reg_matrix.specs.declared.Entry.{Entry}
-use Rattle.std.specs.Prelude.{Some}
+use Rattle.std.specs.Prelude.{Some, None}
 use Rattle.reg_matrix.specs.declared.Reservation.TheVariants.{Held}
 use Rattle.matrix.specs.declared.Cursor.{Cursor}
 use Rattle.matrix.specs.declared.Move.TheVariants.{Ends}
@@ -108,10 +108,10 @@ module _ (W : Lent) (c : Cursor) (z : c.units ≡ 0 → ⊥) where
     unfolding unit_step
     step_other h = step_unit ∙ rw (ne_eqb _ _ h)
 
-    pub step_entry : x.unit ≡ count_trailing_zeros 64 c.units → c.inner ≡ 0 → step_of W c ≡ entry_step W.uses c x (segment_at W.froms W.tos W.values c.segment)
-    unfolding unit_step here
-    step_entry h i = step_unit ∙ rw (eq-eqb _ _ h, eq-eqb _ _ i)
+    pub step_entry : x.unit ≡ count_trailing_zeros 64 c.units → c.inner ≡ None → step_of W c ≡ entry_step W.uses c x (segment_at W.froms W.tos W.values c.segment)
+    unfolding unit_step meeting_step here
+    step_entry h i = step_unit ∙ rw (eq-eqb _ _ h, i)
 
-    pub step_use : x.unit ≡ count_trailing_zeros 64 c.units → (c.inner ≡ 0 → ⊥) → step_of W c ≡ use_step W.uses c x (segment_at W.froms W.tos W.values c.segment)
-    unfolding unit_step here
-    step_use h i = step_unit ∙ rw (eq-eqb _ _ h, ne_eqb _ _ i)
+    pub step_use : x.unit ≡ count_trailing_zeros 64 c.units → (p : ℕ) → c.inner ≡ Some p → step_of W c ≡ use_step W.uses c p x (segment_at W.froms W.tos W.values c.segment)
+    unfolding unit_step meeting_step here
+    step_use h p i = step_unit ∙ rw (eq-eqb _ _ h, i)

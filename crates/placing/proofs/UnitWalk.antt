@@ -1,5 +1,5 @@
 -- The walk over one unit of a table that is laid out: it reports what the check lists there, and goes on to the next unit. Assumes nothing.
-use Prim.Native.Nat.{ℕ, zero, suc, ◌+◌, ◌-◌, ◌*◌, ◌%◌, ◌^◌, ◌<◌, ◌≤◌}
+use Prim.Native.Nat.{ℕ, zero, suc, ◌+◌, ◌*◌, ◌%◌, ◌^◌, ◌<◌, ◌≤◌}
 use native.Mathlib.Numerals.{add-one}
 use native.Mathlib.Decide.{dec_lt, dec_le}
 use native.Mathlib.Omega.{arith}
@@ -49,9 +49,13 @@ small_ends t h e m = record { unit = (h e m).unit; to = (h e m).to }
 -- ---- the fixed uses under an entry
 
 module _ (fixed : List Entry) (t : Table) (W : Lent) (L : Holds fixed t W) (P : Walkable fixed t) (full : Bool) (m n e : ℕ) where
-  -- a position at this entry and segment
+  -- the position at this entry and segment
+  before_uses : Cursor
+  before_uses = record { units = m; segment = n; entry = e; inner = None; full = full }
+
+  -- at a fixed use under the entry
   at_use : ℕ → Cursor
-  at_use i = record { units = m; segment = n; entry = e; inner = i; full = full }
+  at_use i = record { units = m; segment = n; entry = e; inner = Some i; full = full }
 
   module _ (z : m ≡ 0 → ⊥) (a : n < length W.froms) (b : e < max_entries) (x : Entry) (q : entry_at W e ≡ x) (o : x.unit ≡ count_trailing_zeros 64 m) where
     s : ValueSegment
@@ -61,26 +65,24 @@ module _ (fixed : List Entry) (t : Table) (W : Lent) (L : Holds fixed t W) (P : 
     told : List Entry → List Interference
     told us = map (whole_use n) (filter (λ f. overlaps s f && not (own_use s f.reservation)) us)
 
-    use_step_lem : (p : ℕ) → p < max_fixed → step_of W (at_use (p + 1)) ≡ use_meeting (at_use (p + 1)) x s (use_of (get_or W.uses p 0)) (get_or W.uses p 0 % 2 ^ 16)
+    use_step_lem : (p : ℕ) → p < max_fixed → step_of W (at_use p) ≡ use_meeting (at_use p) p x s (use_of (get_or W.uses p 0)) (get_or W.uses p 0 % 2 ^ 16)
     unfolding use_step at_use s
-    use_step_lem p h =
-        let e : p + 1 - 1 ≡ p = omega arith in
-        step_use W (at_use (p + 1)) z a b x q o (λ r. omega arith) ∙ rw (le-ltb max_fixed (p + 1) (omega arith), e)
+    use_step_lem p h = step_use W (at_use p) z a b x q o p refl ∙ rw (lt-leb max_fixed p h)
 
-    use_end : (p : ℕ) → max_fixed ≤ p → step_of W (at_use (p + 1)) ≡ Goes (onward true (at_use (p + 1)) x s)
+    use_end : (p : ℕ) → max_fixed ≤ p → step_of W (at_use p) ≡ Goes (onward true (at_use p) x s)
     unfolding use_step at_use s
-    use_end p h = step_use W (at_use (p + 1)) z a b x q o (λ r. omega arith) ∙ rw (lt-ltb max_fixed (p + 1) (omega arith))
+    use_end p h = step_use W (at_use p) z a b x q o p refl ∙ rw (le-leb max_fixed p h)
 
     -- the same position, whatever use was looked at
-    onward_same : (i j : ℕ) → onward true (at_use i) x s ≡ onward true (at_use j) x s
-    unfolding onward at_use
-    onward_same i j = refl
+    onward_same : (p : ℕ) → onward true (at_use p) x s ≡ onward true before_uses x s
+    unfolding onward at_use before_uses
+    onward_same p = refl
 
-    goes_on_lem : (p : ℕ) → step_of W (at_use (p + 1)) ≡ Goes (onward true (at_use (p + 1)) x s) → remaining W (at_use (p + 1)) ≡ remaining W (onward true (at_use 0) x s)
-    goes_on_lem p r = remaining_step W (at_use (p + 1)) ∙ (ap (λ k. emit k (λ d. remaining W d)) r ∙ ap (remaining W) (onward_same (p + 1) 0))
+    goes_on_lem : (p : ℕ) → step_of W (at_use p) ≡ Goes (onward true (at_use p) x s) → remaining W (at_use p) ≡ remaining W (onward true before_uses x s)
+    goes_on_lem p r = remaining_step W (at_use p) ∙ (ap (λ k. emit k (λ d. remaining W d)) r ∙ ap (remaining W) (onward_same p))
 
     -- no use of the unit any more
-    use_other : (p : ℕ) (f : Entry) → p < max_fixed → use_of (get_or W.uses p 0) ≡ f → (f.unit ≡ x.unit → ⊥) → step_of W (at_use (p + 1)) ≡ Goes (onward true (at_use (p + 1)) x s)
+    use_other : (p : ℕ) (f : Entry) → p < max_fixed → use_of (get_or W.uses p 0) ≡ f → (f.unit ≡ x.unit → ⊥) → step_of W (at_use p) ≡ Goes (onward true (at_use p) x s)
     unfolding use_meeting
     use_other p f h r k = use_step_lem p h ∙ rw (r, ne_eqb _ _ k)
 
@@ -91,9 +93,9 @@ module _ (fixed : List Entry) (t : Table) (W : Lent) (L : Holds fixed t W) (P : 
     unfolding use_of
     past_unit = refl
 
-    uses_done : (later : List Entry) (p : ℕ) → drop p (all_uses fixed) ≡ later → ((f : Entry) → f ∈ later → SmallUse f × (f.unit ≡ x.unit → ⊥)) → remaining W (at_use (p + 1)) ≡ remaining W (onward true (at_use 0) x s)
+    uses_done : (later : List Entry) (p : ℕ) → drop p (all_uses fixed) ≡ later → ((f : Entry) → f ∈ later → SmallUse f × (f.unit ≡ x.unit → ⊥)) → remaining W (at_use p) ≡ remaining W (onward true before_uses x s)
     uses_done [] p r h =
-        elim (dec_lt p max_fixed) as (λ _. remaining W (at_use (p + 1)) ≡ remaining W (onward true (at_use 0) x s)) [
+        elim (dec_lt p max_fixed) as (λ _. remaining W (at_use p) ≡ remaining W (onward true before_uses x s)) [
           | yes l ↦
               goes_on_lem p
               (use_other p (use_of greatest) l (ap use_of (use_past fixed t W L P p r l)) (λ k. omega (arith, past_unit, unit_known, k)))
@@ -105,24 +107,24 @@ module _ (fixed : List Entry) (t : Table) (W : Lent) (L : Holds fixed t W) (P : 
         (use_other p f (omega (arith, drop_inside p (all_uses fixed) f fs r, P.few_uses)) (ap use_of (use_here fixed t W L P p f fs r) ∙ use_back f k.0) k.1)
 
     module _ (p : ℕ) (f : Entry) (fs : List Entry) (r : drop p (all_uses fixed) ≡ f ∷ fs) (k : SmallUse f) (y : f.unit ≡ x.unit) where
-      at_this : step_of W (at_use (p + 1)) ≡ use_meeting (at_use (p + 1)) x s f (use_value f.reservation)
+      at_this : step_of W (at_use p) ≡ use_meeting (at_use p) p x s f (use_value f.reservation)
       at_this =
           use_step_lem p (omega (arith, drop_inside p (all_uses fixed) f fs r, P.few_uses))
           ∙ rw (use_here fixed t W L P p f fs r, use_back f k, use_value_lem f k)
 
-      use_stops : s.to ≤ f.from → step_of W (at_use (p + 1)) ≡ Goes (onward true (at_use (p + 1)) x s)
+      use_stops : s.to ≤ f.from → step_of W (at_use p) ≡ Goes (onward true (at_use p) x s)
       unfolding use_meeting
       use_stops h = at_this ∙ rw (eq-eqb _ _ y, le-leb _ _ h)
 
-      use_early : f.from < s.to → f.to ≤ s.from → step_of W (at_use (p + 1)) ≡ Goes (at_use (p + 1 + 1))
+      use_early : f.from < s.to → f.to ≤ s.from → step_of W (at_use p) ≡ Goes (at_use (p + 1))
       unfolding use_meeting at_use
       use_early g h = at_this ∙ rw (eq-eqb _ _ y, lt-leb _ _ g, le-leb _ _ h)
 
-      use_own : f.from < s.to → s.from < f.to → use_value f.reservation ≡ s.value → step_of W (at_use (p + 1)) ≡ Goes (at_use (p + 1 + 1))
+      use_own : f.from < s.to → s.from < f.to → use_value f.reservation ≡ s.value → step_of W (at_use p) ≡ Goes (at_use (p + 1))
       unfolding use_meeting at_use
       use_own g h v = at_this ∙ rw (eq-eqb _ _ y, lt-leb _ _ g, lt-leb _ _ h, eq-eqb _ _ v)
 
-      use_met : f.from < s.to → s.from < f.to → (use_value f.reservation ≡ s.value → ⊥) → step_of W (at_use (p + 1)) ≡ Meets (whole_use n f) (at_use (p + 1 + 1))
+      use_met : f.from < s.to → s.from < f.to → (use_value f.reservation ≡ s.value → ⊥) → step_of W (at_use p) ≡ Meets (whole_use n f) (at_use (p + 1))
       unfolding use_meeting at_use
       use_met g h v = at_this ∙ rw (eq-eqb _ _ y, lt-leb _ _ g, lt-leb _ _ h, ne_eqb _ _ v)
 
@@ -153,14 +155,14 @@ module _ (fixed : List Entry) (t : Table) (W : Lent) (L : Holds fixed t W) (P : 
         → ((f : Entry) → f ∈ us → SmallUse f × (f.unit ≡ x.unit))
         → ((f : Entry) → f ∈ later → SmallUse f × (f.unit ≡ x.unit → ⊥))
         → Chain us
-        → remaining W (at_use (p + 1)) ≡ told us ++ remaining W (onward true (at_use 0) x s)
-    use_walk [] later p r h l c = uses_done later p r l ∙ ap (λ k. k ++ remaining W (onward true (at_use 0) x s)) (sym (told_none [] (λ f k. elim k [ ])))
+        → remaining W (at_use p) ≡ told us ++ remaining W (onward true before_uses x s)
+    use_walk [] later p r h l c = uses_done later p r l ∙ ap (λ k. k ++ remaining W (onward true before_uses x s)) (sym (told_none [] (λ f k. elim k [ ])))
     use_walk (f ∷ fs) later p r h l c =
         go (dec_le s.to f.from) (dec_le f.to s.from) (eqb (use_value f.reservation) s.value) refl
         (use_walk fs later (p + 1) (drop_next p (all_uses fixed) f (fs ++ later) r) (λ g k. h g (Memᴰ.tail k)) l c.1)
       where
         rest : List Interference
-        rest = remaining W (onward true (at_use 0) x s)
+        rest = remaining W (onward true before_uses x s)
 
         k : SmallUse f
         k = (h f (Memᴰ.head refl)).0
@@ -168,16 +170,16 @@ module _ (fixed : List Entry) (t : Table) (W : Lent) (L : Holds fixed t W) (P : 
         y : f.unit ≡ x.unit
         y = (h f (Memᴰ.head refl)).1
 
-        one : (v : Move) → step_of W (at_use (p + 1)) ≡ v → remaining W (at_use (p + 1)) ≡ emit v (λ d. remaining W d)
-        one v q = remaining_step W (at_use (p + 1)) ∙ ap (λ j. emit j (λ d. remaining W d)) q
+        one : (v : Move) → step_of W (at_use p) ≡ v → remaining W (at_use p) ≡ emit v (λ d. remaining W d)
+        one v q = remaining_step W (at_use p) ∙ ap (λ j. emit j (λ d. remaining W d)) q
 
         go :
             Dec (s.to ≤ f.from)
             → Dec (f.to ≤ s.from)
             → (b : Bool)
             → eqb (use_value f.reservation) s.value ≡ b
-            → remaining W (at_use (p + 1 + 1)) ≡ told fs ++ remaining W (onward true (at_use 0) x s)
-            → remaining W (at_use (p + 1)) ≡ told (f ∷ fs) ++ remaining W (onward true (at_use 0) x s)
+            → remaining W (at_use (p + 1)) ≡ told fs ++ remaining W (onward true before_uses x s)
+            → remaining W (at_use p) ≡ told (f ∷ fs) ++ remaining W (onward true before_uses x s)
         go (yes a) d b w ih =
             goes_on_lem p (use_stops p f (fs ++ later) r k y a)
             ∙ ap (λ j. j ++ rest) (sym (told_out f fs (ap (λ j. j && not (own_use s f.reservation)) (behind s f a)) ∙ told_none fs (λ g i. omega (arith, a, c.0 g i, k.two))))
@@ -225,7 +227,7 @@ module _ (fixed : List Entry) (t : Table) (W : Lent) (L : Holds fixed t W) (P : 
   seg n = segment_at W.froms W.tos W.values n
 
   at : ℕ → ℕ → Cursor
-  at n e = record { units = m; segment = n; entry = e; inner = 0; full = full }
+  at n e = record { units = m; segment = n; entry = e; inner = None; full = full }
 
   -- what comes after this unit
   pub after : List Interference
@@ -244,7 +246,7 @@ module _ (fixed : List Entry) (t : Table) (W : Lent) (L : Holds fixed t W) (P : 
         (i : ℕ)
         → i ≤ length (fixed_uses fixed x.unit)
         → remaining W (under_entry W.uses (at n e) x.unit i) ≡ uses_under uses n (seg n) i ++ remaining W (onward true (at n e) x (seg n))
-    unfolding u uses seg at under_entry uses_under told s at_use
+    unfolding u uses seg at under_entry uses_under told s at_use before_uses
     underneath i h =
         let d = uses_at fixed P.small_uses P.use_chain x.unit (omega (arith, o, low)) W.uses L.uses P.few_uses i h in
         use_walk fixed t W L P full m n e z a b x q o (drop i (fixed_uses fixed x.unit)) _ _ d
@@ -626,7 +628,7 @@ module _ (fixed : List Entry) (t : Table) (W : Lent) (L : Holds fixed t W) (P : 
       ≡ check_on full (fixed_uses fixed (count_trailing_zeros 64 m)) (on_unit (count_trailing_zeros 64 m) t) 0 [] (segments_from W.froms W.tos W.values 0 (length W.froms)) ++ after
   unfolding entered at u uses segs key
   unit_start f S N =
-      ap (λ p. remaining W (record { units = m; segment = 0; entry = p; inner = 0; full = full })) (place_is from f)
+      ap (λ p. remaining W (record { units = m; segment = 0; entry = p; inner = None; full = full })) (place_is from f)
       ∙ (unit_walk (length W.froms + length (drop place t)) (length W.froms) 0 place [] (drop place t) (omega arith) (omega arith) rest (λ y j. counts_first y) S N
       ∙ ap (λ l. l ++ after) told.0)
     where

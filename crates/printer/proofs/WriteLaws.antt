@@ -3,10 +3,9 @@ use Prim.Native.Nat.{ℕ, ◌+◌, ◌≤◌, ◌<◌}
 use native.Mathlib.Omega.{arith}
 use mathlib.Core.Path.{◌≡◌, sym, ap, ◌∙◌, subst}
 use mathlib.Core.List.{List}
-use mathlib.Core.Bool.{Bool, true, false, not}
+use mathlib.Core.Bool.{Bool, true, false}
 use lib.Dec.{T}
 use lib.ListN.{length}
-use borrow.Author.Tests.{not-false}
 use Rattle.lent.specs.Parts.{part}
 use Rattle.reg_matrix.specs.Lines.{refused_line}
 use Rattle.reg_matrix.specs.Refusals.{short_buffer}
@@ -14,7 +13,8 @@ use Rattle.job.specs.Layout.{JobSlices}
 use Rattle.allocator.specs.Layout.{StateBuffers}
 use Rattle.allocator.specs.Sheet.{printed}
 use Rattle.listing.specs.declared.Listing.{Listing}
-use Rattle.std.specs.Prelude.{Option, Some, None, Result, Ok, Err}
+use Rattle.std.specs.Prelude.{Option, Some, None, is_some, IfSome, Result, Ok, Err}
+use Rattle.std.proofs.Common.{unwrap_or}
 use Rattle.listing.specs.Walk.{line_limit}
 use Rattle.texts.specs.Texts.{Stored}
 use Rattle.lines.specs.LineTexts.{Lent}
@@ -30,6 +30,11 @@ module _ {n b : ℕ} where
   pub part_written : b ≤ n → WrittenOf n (record { whole = false; bytes = b })
   part_written h = record { all = λ z. absurd (subst (λ (x : Bool). T x) (sym z) tt); never_more = h }
 
+-- one write of n bytes
+pub front_written : (n : ℕ) (written : Option ℕ) → IfSome written (λ b. b ≡ n) → WrittenOf n (record { whole = is_some written; bytes = unwrap_or written 0 })
+front_written n None u = part_written (omega arith)
+front_written n (Some b) u = all_written u
+
 -- ---- line by line: n bytes are written up to the position c
 
 module _ (l : Lent) (words : List ℕ) (c₀ c : Listing) (n : ℕ) (so : Counted l words c₀ c n) where
@@ -40,14 +45,14 @@ module _ (l : Lent) (words : List ℕ) (c₀ c : Listing) (n : ℕ) (so : Counte
     pub lines_end : r ≡ Ok None → WrittenOf (lines_size c₀ l words) (record { whole = true; bytes = n })
     lines_end told = all_written (count_end l words c₀ c n so s t long same r d told)
 
-    -- the next line has k bytes
-    module _ (k : ℕ) (after : Listing) (told : r ≡ Ok (Some (k, after))) (w : Written) (u : WrittenOf (length (part 0 k t)) w) where
-      pub line_room : n + w.bytes < 4294967296
-      line_room = omega (arith, u.never_more, line_size l words c₀ c n so s t long same r d k after told, count_room l words c₀ c n so s t long same r d k after told)
+    -- the next line has k bytes, and b are written
+    module _ (k : ℕ) (after : Listing) (told : r ≡ Ok (Some (k, after))) (b : ℕ) (u : b ≡ length (part 0 k t)) where
+      pub line_room : n + b < 4294967296
+      line_room = omega (arith, u, line_size l words c₀ c n so s t long same r d k after told, count_room l words c₀ c n so s t long same r d k after told)
 
-      pub line_written : not w.whole ≡ false → Counted l words c₀ after (n + w.bytes)
-      line_written e =
-          let size : w.bytes ≡ k = u.all (not-false w.whole e) ∙ line_size l words c₀ c n so s t long same r d k after told in
+      pub line_written : Counted l words c₀ after (n + b)
+      line_written =
+          let size : b ≡ k = u ∙ line_size l words c₀ c n so s t long same r d k after told in
           subst (λ (i : ℕ). Counted l words c₀ after (n + i)) (sym size) (count_more l words c₀ c n so s t long same r d k after told)
 
 -- ---- what is to be printed

@@ -1,23 +1,24 @@
-// Writes the sheet of a job's bytes to a descriptor, line by line. What is written is what the crate sheets says; here is what moves it, and counts it.
+// Writes the sheet of a job's bytes to a descriptor, line by line. What is written is what the crate sheets says; here is what moves it, and
+// counts it.
 #![tactic(auto)]
 
-ghost use Rattle.std.specs.Prelude.{length};
+ghost use Rattle.std.specs.Prelude.{◌≡◌, IfSome, length};
 ghost use Rattle.lent.specs.Parts.{part};
 ghost use Rattle.reg_matrix.specs.Refused.{numbered};
 ghost use Rattle.allocator.specs.Sheet.{printed};
-ghost use Rattle.lines.specs.LineTexts.{lent};
+ghost use Rattle.lines.specs.LineTexts.{sheet_of};
 ghost use Rattle.sheets.specs.Printing.{shown};
 ghost use Rattle.printer.specs.Writing.{WrittenOf, lines_size};
 
 use io::write_all;
-use job_parts::lent_job::LentJobMut;
 use job_sheet::begin;
 use lent::part;
+use lines::LentSheet;
 use listing::Listing;
-use listing::sheet::refused;
 use reg_matrix::Refusal;
+use result_lines::refused_line;
 use sheets::sheet::next;
-use table_words::buffers::{LentState, Table};
+use stage_loader::buffers::StageBuffers;
 
 // What was written: whether all of it, and of how many bytes the writes were that succeeded. Both always count, so this is no Option or Result.
 #[derive(Clone, Copy, PartialEq, Eq, Debug)]
@@ -26,40 +27,31 @@ pub struct Written {
     pub bytes: usize,
 }
 
-// Writes the first n bytes of a line. What a write that fails has taken is not counted.
-#[tactic(auto, using(crate::proofs::WriteLaws::all_written, crate::proofs::WriteLaws::part_written))]
-fn write_front(fd: i32, line: &[u8], n: usize) -> Written
-    ensures { WrittenOf (length (part 0 n line.now)) result }
+// Writes the first n bytes of a line, and answers how many they are. What a write that fails has taken is not counted.
+fn write_front(fd: i32, line: &[u8], n: usize) -> Option<usize>
+    ensures { IfSome result (λ written. written ≡ length (part 0 n line.now)) }
 {
     let front = part(line, 0, n);
-    if write_all(fd, front) {
-        return Written {
-            whole: true,
-            bytes: front.len(),
-        };
-    }
-    Written {
-        whole: false,
-        bytes: 0,
-    }
+    write_all(fd, front).then_some(front.len())
 }
 
 // Writes the lines of a sheet from a position on, up to the last or to a write that fails.
 fn write_lines(
     fd: i32,
     position: Listing,
-    maps: &[u64],
-    table: Table<'_>,
+    sheet: LentSheet<'_>,
     words: &[u64],
     line: &mut [u8; 256],
 ) -> Written
-    ensures { WrittenOf (lines_size position (lent maps.now table.entry.ends.now table.entry.rests.now) words.now) result }
+    ensures { WrittenOf (lines_size position (sheet_of sheet.entry) words.now) result }
 {
     let mut c = position;
     let mut bytes: usize = 0;
     // a `for` is no plainer: a line comes with the position after it, and an iterator would keep the line lent
+    // printout's `print_from` walks alike, and is another function: one for both would be public and take a closure, whose calls it would have to
+    // require, and no public function has a `requires`; and here a write that fails ends the walk
     loop {
-        match next(c, maps, table, words, line) {
+        match next(c, sheet, words, line) {
             Ok(None) => return Written { whole: true, bytes },
             // not met: the lent line has 256 bytes
             Err(_) => return Written {
@@ -67,14 +59,13 @@ fn write_lines(
                 bytes,
             },
             Ok(Some((n, after))) => {
-                let front = write_front(fd, line, n);
-                if !front.whole {
+                let Some(written) = write_front(fd, line, n) else {
                     return Written {
                         whole: false,
                         bytes,
                     };
-                }
-                bytes += front.bytes;
+                };
+                bytes += written;
                 c = after;
             }
         }
@@ -85,19 +76,22 @@ fn write_lines(
 fn write_printing(
     fd: i32,
     printing: Result<Listing, Refusal>,
-    maps: &[u64],
-    table: Table<'_>,
+    sheet: LentSheet<'_>,
     words: &[u64],
     line: &mut [u8; 256],
 ) -> Written
-    ensures { WrittenOf (length (shown (numbered printing) (lent maps.now table.entry.ends.now table.entry.rests.now) words.now)) result }
+    ensures { WrittenOf (length (shown (numbered printing) (sheet_of sheet.entry) words.now)) result }
 {
     match printing {
         Err(r) => {
-            let size = refused(r.number(), line);
-            write_front(fd, line, size)
+            let size = refused_line(line, r.number());
+            let written = write_front(fd, line, size);
+            Written {
+                whole: written.is_some(),
+                bytes: written.unwrap_or(0),
+            }
         }
-        Ok(position) => write_lines(fd, position, maps, table, words, line),
+        Ok(position) => write_lines(fd, position, sheet, words, line),
     }
 }
 
@@ -107,29 +101,13 @@ fn write_printing(
 pub fn write_sheet(fd: i32, s: &[u8]) -> Written
     ensures { WrittenOf (length (printed s.now)) result }
 {
-    let mut j64 = [0u64; 576];
-    let mut j32 = [0u32; 1536];
-    let mut j16 = [0u16; 2067];
-    let mut j8 = [0u8; 2560];
-    let mut jf = [0.0f32; 1536];
-    let mut ends = [0u64; 2560];
-    let mut rests = [0u64; 2560];
-    let mut queue = [0u64; 1024];
-    let mut last = [0u8; 512];
     let mut words = [0u64; 512];
     let mut line = [0u8; 256];
-    let mut job = LentJobMut {
-        j64: &mut j64,
-        j32: &mut j32,
-        j16: &mut j16,
-        j8: &mut j8,
-        jf: &mut jf,
-    };
-    let mut state = LentState {
-        ends: &mut ends,
-        rests: &mut rests,
-        queue: &mut queue,
-    };
-    let printing = begin(s, &mut job, &mut state, &mut last, &mut words);
-    write_printing(fd, printing, job.j64, state.as_table(), &words, &mut line)
+    let mut buffers = StageBuffers::new();
+    let (mut job, mut state, last) = buffers.lend();
+    let printing = begin(s, &mut job, &mut state, last, &mut words);
+    let table = state.as_table();
+    let maps = job.as_job().j64;
+    let sheet = LentSheet { maps, table };
+    write_printing(fd, printing, sheet, &words, &mut line)
 }

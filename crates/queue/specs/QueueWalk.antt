@@ -4,14 +4,15 @@ use Rattle.std.proofs.Math.Option.{Option, none, some}
 use Rattle.allocator.specs.declared.Stage.{Stage}
 use Rattle.allocator.specs.declared.Stage.TheVariants.{Evict, Split}
 use Rattle.allocator.specs.Queue.{stage_bit, Queued}
+use Rattle.queue.specs.declared.Queued.{Queued as Next}
 
 -- the key by its parts
 unfoldable pub key_of : ℕ → Bool → ℕ → Stage → ℕ
 key_of v hints size q = stage_bit q + cond hints (2 ^ 62) 0 + min size (2 ^ 27 - 1) * 2 ^ 32 + v
 
 -- what a word stands for: 0 for nobody, or a key plus one
-unfoldable pub decoded : ℕ → Maybe (ℕ × Stage)
-decoded w = cond (eqb w 0) None (cond (ltb (2 ^ 63) w) (Some ((w - 1) % 2 ^ 16, Evict)) (Some ((w - 1) % 2 ^ 16, Split)))
+unfoldable pub decoded : ℕ → Maybe Next
+decoded w = cond (eqb w 0) None (Some (record { number = (w - 1) % 2 ^ 16; stage = cond (ltb (2 ^ 63) w) Evict Split }))
 
 -- the match at word i, played
 unfoldable pub play_at : List ℕ → ℕ → List ℕ
@@ -42,6 +43,6 @@ filled f q = set (play_from 511 (leaves_from f 512 0 q)) 0 0
 unfoldable pub first_word : ℕ → List ℕ → List ℕ → ℕ → ℕ
 first_word n starts sizes v = cond (ltb v n) (key_of v (ltb (get_or starts v 0) (get_or starts (v + 1) 0)) (get_or sizes v 0) Evict + 1) 0
 
-abbrev pub next_number : Option Queued → Maybe (ℕ × Stage)
+abbrev pub next_number : Option Queued → Maybe Next
 next_number none = None
-next_number (some q) = Some (q.number, q.stage)
+next_number (some q) = Some (record { number = q.number; stage = q.stage })

@@ -1,12 +1,17 @@
 -- What the code's readers answer, as facts of the parsers of Load.antt. Assumes nothing.
 use Prim.Native.Nat.{ℕ, zero, suc, ◌+◌, ◌*◌, ◌-◌, ◌/◌, ◌%◌, ◌≤◌, ◌<◌, ◌^◌}
 use native.Mathlib.Nat.{pow-suc, pow-le-pow_right}
-use native.Mathlib.Numerals.{add-one}
 use native.Mathlib.Omega.{arith}
-use mathlib.Core.Path.{◌≡◌, refl, ap, ◌∙◌}
-use mathlib.Core.List.{List, [], ◌∷◌}
-use lib.ListN.{length, drop, get_or}
-use lib.Seq.{drop-cons}
+use mathlib.Core.Path.{◌≡◌, refl, ap, sym, ◌∙◌}
+use mathlib.Core.List.{List, [], ◌∷◌, ◌++◌}
+use lib.ListN.{length, take, drop, get_or, length-append, length-drop}
+use lib.Seq.{drop-drop}
+use Rattle.std.proofs.Common.{w64}
+use Rattle.std.proofs.lemmas.List.{length-take-le}
+use Rattle.std.specs.Int.{from_le_bytes}
+use Rattle.std.specs.List.{slice_range}
+use Rattle.std.specs.Prelude.{Ok}
+use Rattle.reader.specs.Read.{number, Little}
 use lib.Count.{ones, ones_in, ones_step}
 use Rattle.job.specs.Parser.{refused, parsed, little}
 
@@ -16,31 +21,56 @@ little_short zero l h = absurd (omega arith)
 little_short (suc n) [] h = refl
 little_short (suc n) (b ∷ l) h = rw (little_short n l (omega arith))
 
--- a byte in front of a number that was read
-pub little_more : (n at v : ℕ) (s t : List ℕ) → at < length s → little n (drop (at + 1) s) ≡ parsed v t → little (n + 1) (drop at s) ≡ parsed (v * 256 + get_or s at 0) t
+-- the first n bytes give their number
+little_front : (n : ℕ) (l : List ℕ) → n ≤ length l → little n l ≡ parsed (number (take n l)) (drop n l)
 unfolding little
-little_more n at v s t h e =
-    let e' : little n (drop (suc at) s) ≡ parsed v t = rw add-one at e in
-    rw (drop-cons s at 0 h, add-one n, e') (ap (λ (k : ℕ). parsed k t) (omega arith))
+little_front zero l h = refl
+little_front (suc n) [] h = absurd (omega arith)
+little_front (suc n) (b ∷ l) h = rw (little_front n l (omega arith))
 
-pub pow_more : (k : ℕ) {v b : ℕ} → v < 256 ^ k → b < 256 → v * 256 + b < 256 ^ (k + 1)
-pow_more k h l = rw (add-one k, pow-suc) (omega arith)
+pub number_small : (l : List ℕ) → ((i : ℕ) → get_or l i 0 < 256) → number l < 256 ^ length l
+number_small [] h = omega arith
+number_small (b ∷ l) h = rw (pow-suc 256 (length l)) (omega (arith, h 0, number_small l (λ i. h (suc i))))
 
-pub pow_fits : {k v : ℕ} → k ≤ 8 → v < 256 ^ k → v < 2 ^ 64
-pow_fits h l = omega (arith, pow-le-pow_right {n = 256} (omega arith) h)
+-- zeros behind them change nothing
+zeros_behind : (n : ℕ) (l : List ℕ) → number l ≡ 0 → number (drop n l) ≡ 0
+zeros_behind zero l h = h
+zeros_behind (suc n) [] h = refl
+zeros_behind (suc n) (b ∷ l) h = zeros_behind n l (omega (arith, h))
 
--- a turn of the reading loop, from the last byte down
-module _ (s t : List ℕ) (at n i v : ℕ) (some : 0 < i) (le : i ≤ n) (within : at + n ≤ length s) where
-  pub turn_small : v < 256 ^ (n - i) → get_or s (at + (i - 1)) 0 < 256 → v * 256 + get_or s (at + (i - 1)) 0 < 256 ^ (n - (i - 1))
-  turn_small h l =
-      let e : n - (i - 1) ≡ n - i + 1 = omega arith in
-      rw e (pow_more (n - i) h l)
+number_append : (l zs : List ℕ) → number zs ≡ 0 → number (l ++ zs) ≡ number l
+number_append [] zs h = h
+number_append (b ∷ l) zs h = ap (λ (k : ℕ). b + 256 * k) (number_append l zs h)
 
-  pub turn_reads : little (n - i) (drop (at + i) s) ≡ parsed v t → little (n - (i - 1)) (drop (at + (i - 1)) s) ≡ parsed (v * 256 + get_or s (at + (i - 1)) 0) t
-  turn_reads h =
-      let e : n - (i - 1) ≡ n - i + 1 = omega arith in
-      let e' : at + i ≡ at + (i - 1) + 1 = omega arith in
-      rw e (little_more (n - i) (at + (i - 1)) v s t (omega arith) (rw e' at h))
+-- of 8 bytes
+number_of_8 : (l : List ℕ) → length l ≡ 8 → from_le_bytes w64 l ≡ number l
+number_of_8 (a ∷ b ∷ c ∷ d ∷ e ∷ f ∷ g ∷ h ∷ []) n = omega arith
+number_of_8 l n = absurd (omega (arith, n))
+
+pub number_padded : (l : List ℕ) {x : ℕ} → length l ≤ 8 → x ≡ from_le_bytes w64 (l ++ drop (length l) (0 ∷ 0 ∷ 0 ∷ 0 ∷ 0 ∷ 0 ∷ 0 ∷ 0 ∷ [])) → x ≡ number l
+number_padded l h e =
+    let zs : List ℕ = 0 ∷ 0 ∷ 0 ∷ 0 ∷ 0 ∷ 0 ∷ 0 ∷ 0 ∷ [] in
+    e
+    ∙ number_of_8 (l ++ drop (length l) zs) (simp (length-append, length-drop) (omega arith))
+    ∙ number_append l (drop (length l) zs) (zeros_behind (length l) zs refl)
+
+-- the bytes at the front of what is left
+pub read_front :
+    (s : List ℕ) (at : ℕ) {n v : ℕ} {l bytes : List ℕ}
+    → l ≡ drop at s
+    → n ≤ length l
+    → bytes ≡ slice_range l 0 n
+    → v ≡ number bytes
+    → v < 256 ^ length bytes
+    → Little (drop at s) (drop (at + n) s) n (Ok v)
+read_front s at {n} {l} f h b e k =
+    let z : n - 0 ≡ n = omega arith in
+    let b' : _ ≡ take n (drop at s) = b ∙ rw (z, f) in
+    let h' : n ≤ length (drop at s) = rw f at h in
+    record {
+      view = sym (little_front n (drop at s) h' ∙ rw (e, b', drop-drop n at s));
+      small = rw (b', length-take-le n (drop at s) h') at k;
+    }
 
 pub pow_pos : (k : ℕ) → 0 < 256 ^ k
 pow_pos k = omega (arith, pow-le-pow_right {n = 256} (omega arith) {i = 0} {j = k} (omega arith))

@@ -3,7 +3,7 @@ use Prim.Native.Nat.{ℕ, zero, suc, ◌+◌, ◌<◌}
 use native.Mathlib.Omega.{arith}
 use mathlib.Core.Path.{◌≡◌, refl, ap, sym, ◌∙◌}
 use mathlib.Core.List.{List, [], ◌∷◌, ◌++◌, map, append_assoc, append-nil}
-use mathlib.Core.Bool.{Bool, true, false, cond, beq}
+use mathlib.Core.Bool.{Bool, true, false, cond}
 use lib.Dec.{eqb}
 use lib.ListN.{length, get_or, set, replicate, length-set, length-append}
 use lib.Seq.{sets, get_or-set_same, get_or-set_other, set-set}
@@ -97,23 +97,6 @@ ends_more {ends} {before} e h l q =
     go : (u : ℕ) (b : Bool) → eqb e.unit u ≡ b → get_or (set ends e.unit e.to) u 0 ≡ cond (eqb e.unit u) e.to (last_end u before)
     go u true z = rw (z, ← eqb-true e.unit u z) (get_or-set_same ends e.unit e.to 0 (omega (arith, h.size)))
     go u false z = rw z (get_or-set_other ends e.unit u e.to 0 (λ y. eqb-false e.unit u z (sym y)) ∙ h.last u)
-
--- the bits of a reservation's end and value, as the code compares them
-pub same_bits : (a b : ℕ) → a ≡ b → beq (eqb a 1) (eqb b 1) ≡ true
-same_bits a b e = rw e (go (eqb b 1))
-  where
-    go : (t : Bool) → beq t t ≡ true
-    go true = refl
-    go false = refl
-
-pub other_bits : (a b : ℕ) → a < 2 → b < 2 → (a ≡ b → ⊥) → beq (eqb a 1) (eqb b 1) ≡ false
-other_bits zero zero h l n = absurd (n refl)
-other_bits zero (suc zero) h l n = refl
-other_bits zero (suc (suc b)) h l n = absurd (omega arith)
-other_bits (suc zero) zero h l n = refl
-other_bits (suc zero) (suc zero) h l n = absurd (n refl)
-other_bits (suc zero) (suc (suc b)) h l n = absurd (omega arith)
-other_bits (suc (suc a)) b h l n = absurd (omega arith)
 
 -- a reservation is read after those before it by the ends of the last ones
 pub after_ends : {ends : List ℕ} {before : List Entry} → Ends ends before → (l : List ℕ) → reservation before l ≡ reservation_after ends l

@@ -1,6 +1,6 @@
 -- What the code's readers promise, in the terms of the parsers of Load.antt: a position stands for the bytes that follow it, and what was read
 -- is stored in lent slices from some place on, where there is room. Assumes nothing.
-use Rattle.std.specs.Prelude.{ℕ, ◌+◌, ◌≤◌, ◌<◌, ◌^◌, ◌≡◌, List, [], map, Bool, drop, length, get_or, Result, Ok, Err}
+use Rattle.std.specs.Prelude.{ℕ, ◌+◌, ◌*◌, ◌≤◌, ◌<◌, ◌^◌, ◌≡◌, List, [], ◌∷◌, map, Bool, drop, length, get_or, Result, Ok, Err}
 use Rattle.std.proofs.lemmas.List.Edits.{sets}
 use Rattle.reg_matrix.specs.Lists.{concat_map}
 use Rattle.reg_matrix.specs.Refused.{number_of}
@@ -17,6 +17,11 @@ use Rattle.job.specs.Load.{count_of, fixed_fields, fixed_tests}
 use Rattle.job.specs.Layout.{starts_from}
 
 -- ---- numbers
+
+-- the number of these bytes, the lowest first
+abbrev pub number : List ℕ → ℕ
+number [] = 0
+number (b ∷ bs) = b + 256 * number bs
 
 -- the bytes that are left to read
 abbrev pub left : Reader → List ℕ

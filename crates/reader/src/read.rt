@@ -1,11 +1,31 @@
-// Numbers of a job's bytes, the lowest byte first. A reader answers what it read, or why it refuses. Where it refuses, nothing is said of its position,
-// since nobody reads on.
-ghost use Rattle.std.specs.Prelude.{◌≡◌, min};
+// Numbers of a job's bytes, the lowest byte first. A reader answers what it read, or why it refuses. Where it refuses, nothing is said of its
+// position, since nobody reads on.
+ghost use Rattle.std.specs.Prelude.{◌≡◌, ◌^◌, ◌≤◌, ◌<◌, length, min};
 ghost use Rattle.job.specs.Load.{count_of, known as known_of};
 ghost use Rattle.job.specs.Parser.{if_bit};
-ghost use Rattle.reader.specs.Read.{left, Little, Field, Num};
+ghost use Rattle.reg_matrix.specs.Lists.{bit};
+ghost use Rattle.reader.specs.Read.{number, left, Little, Field, Num};
 
+use lent::from;
 use reg_matrix::Refusal;
+
+// The number of at most 8 bytes, the lowest first.
+fn number(bytes: &[u8]) -> u64
+    requires { length bytes.now ≤ 8 }
+    ensures value { result ≡ number bytes.now }
+    ensures small { result < 256 ^ length bytes.now }
+{
+    let mut padded = [0; 8];
+    padded[..bytes.len()].copy_from_slice(bytes);
+    u64::from_le_bytes(padded)
+}
+
+// Whether bit `i` of a map of fields stands.
+pub fn bit(map: u64, i: u32) -> bool
+    ensures { result ≡ bit i map }
+{
+    i < 64 && (map >> i) % 2 == 1
+}
 
 // A job's bytes, and the position from which they are left to read.
 #[derive(Drop)]
@@ -21,18 +41,11 @@ impl Reader<'_> {
         ensures read { Little (left self.old) (left self.new) (min N 8) result }
     {
         let n = N.min(8);
-        let s = self.bytes;
-        let at = self.at;
-        if s.len().saturating_sub(at) < n {
+        let Some(bytes) = from(self.bytes, self.at).get(..n) else {
             return Err(Refusal::ShortJob);
-        }
-        let mut v: u64 = 0;
-        for i in (0..n).rev() {
-            let b = s[at + i];
-            v = v * 256 + b as u64;
-        }
-        self.at = at + n;
-        Ok(v)
+        };
+        self.at += n;
+        Ok(number(bytes))
     }
 
     // The number of the next N bytes where its bit stands, and 0 elsewhere.

@@ -1,35 +1,21 @@
--- An array filled one place after another with a function's values. Assumes nothing.
-use Prim.Native.Nat.{ℕ, ◌+◌, ◌-◌, ◌<◌, ◌≤◌}
+-- An array made by calls at each number below n (`array::from_fn`): where each call gives a function's value and leaves the closure as it was, it
+-- is that function's values. Assumes nothing.
+use Prim.Native.Nat.{ℕ, zero, suc, ◌+◌, ◌≤◌, ◌<◌}
 use native.Mathlib.Omega.{arith}
-use native.Mathlib.Numerals.{add-one}
-use mathlib.Core.Path.{◌≡◌, sym, ap, ◌∙◌}
-use mathlib.Core.List.{List, ◌++◌, map, append-nil}
-use lib.ListN.{length, set, drop, length-map, length-set}
-use lib.Seq.{sets, sets-eq, drop-length}
-use Rattle.reg_matrix.specs.Lists.{count}
-use Rattle.reg_matrix.proofs.Places.{count_length, count_more, count_end}
+use native.Mathlib.Nat.{eq-or-lt_of_le}
+use mathlib.Core.Path.{◌≡◌, subst, ◌∙◌}
+use mathlib.Core.Logic.{⊎_elim}
+use mathlib.Core.List.{List}
+use lib.ListN.{get_or}
+use denote.Param.Members.{Mut}
+use Rattle.std.specs.Fn.{Called}
+use Rattle.std.specs.Array.{IsFromFnResultFrom}
 
-module _ {A : Type 0} where
-  -- as many as there are places
-  pub sets_whole : (vs l : List A) → length vs ≡ length l → sets l 0 vs ≡ vs
-  sets_whole vs l n =
-      let n' : 0 + length vs ≡ length l = omega (arith, n) in
-      sets-eq vs l 0 (omega (arith, n)) ∙ ap (λ (k : ℕ). vs ++ drop k l) n' ∙ ap (λ (t : List A). vs ++ t) (drop-length l) ∙ append-nil vs
-
-  -- the places before i are filled: with those from i on it is the whole
-  pub record Filling (f : ℕ → A) (n : ℕ) (all : List A) (i : ℕ) : Type 0 where
-    pub rest : map f (count 0 n) ≡ sets all i (map f (count i (n - i)))
-    pub size : length all ≡ n
-
-  pub fill_start : (f : ℕ → A) (n : ℕ) (all : List A) → length all ≡ n → Filling f n all 0
-  fill_start f n all l =
-      let e : n - 0 ≡ n = omega arith in
-      record { rest = rw e (sym (sets_whole (map f (count 0 n)) all (length-map (count 0 n) f ∙ count_length 0 n ∙ sym l))); size = l }
-
-  module _ {f : ℕ → A} {n : ℕ} {all : List A} {i : ℕ} (h : Filling f n all i) where
-    -- one place more
-    pub fill_more : (all' : List A) (x : A) → i < n → x ≡ f i → all' ≡ set all i x → Filling f n all' (i + 1)
-    fill_more all' x l ex e = record { rest = h.rest ∙ rw (count_more n i l, e, ex, add-one i); size = rw (e, length-set) h.size }
-
-    pub fill_end : n ≤ i → all ≡ map f (count 0 n)
-    fill_end l = sym (h.rest ∙ rw (count_end n i l))
+module _ {F A : Type 0} (g : Mut F (ℕ × Unit {0}) A) (v : ℕ → A) (f : F) (h : (i : ℕ) (x : A) (q : F) → Called g f (i, tt) x q → (q ≡ f) × (x ≡ v i)) (xs : List A) where
+  pub made_at : (d : A) (i n : ℕ) → IsFromFnResultFrom g f xs i n → (k : ℕ) → i ≤ k → k < i + n → get_or xs k d ≡ v k
+  made_at d i zero m k l b = absurd (omega arith)
+  made_at d i (suc n) m k l b =
+      let e = h i m.1 m.0 m.3 in
+      ⊎_elim (λ (p : i ≡ k). subst (λ (t : ℕ). get_or xs t d ≡ v t) p (m.2.1 d ∙ e.1))
+      (λ (p : i < k). made_at d (i + 1) n (subst (λ (q : F). IsFromFnResultFrom g q xs (i + 1) n) e.0 m.4) k (omega arith) (omega arith))
+      (eq-or-lt_of_le l)

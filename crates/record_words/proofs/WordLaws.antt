@@ -5,7 +5,7 @@ use native.Mathlib.Omega.{arith}
 use native.Mathlib.Numerals.{add-one}
 use mathlib.Core.Path.{◌≡◌, refl, sym, ap, subst, ◌∙◌}
 use mathlib.Core.List.{List, [], ◌∷◌, ◌++◌, map}
-use mathlib.Core.Bool.{Bool, true, false, not}
+use mathlib.Core.Bool.{Bool, true, false, not, cond}
 use lib.Dec.{T, eqb}
 use lib.ListN.{length, get_or, set, take, drop, take-append-drop, drop_of_length-le, length-map, length-set, get_or-map, get_or-append, get_or-eq_default}
 use lib.Seq.{sets, sets-eq, length-sets, take_at, take_all, drop_at, drop-cons, drop-set-lt, set_out, get_or-set_same, get_or-set_other, ext_get_or}
@@ -20,18 +20,11 @@ use Rattle.job.specs.Model.{Plain, zero_weight}
 use Rattle.job.proofs.WeightBits.{nan_bits_lem}
 use Rattle.allocator.specs.declared.Assignment.{Assignment}
 use Rattle.allocator.specs.declared.Assignment.TheVariants.{Assigned, Unassigned, Dead}
-use Rattle.records.specs.Fields.{reg_in, record_weight, kind_of}
-use Rattle.record_words.specs.Words.{weight_bits, weight_in, record_word, record_in, records_in, held_in, PlainRecord, AllPlain, WordsOf}
+use Rattle.records.specs.Fields.{reg_in, record_weight, kind_of, weight_in}
+use Rattle.record_words.specs.Words.{weight_bits, record_word, record_in, records_in, held_in, PlainRecord, AllPlain, WordsOf}
 use Rattle.records.proofs.FieldLaws.{record_back}
 
 -- ---- bits
-
--- what does not differ from itself is a number
-pub is_number : (w : Float) → ne w w ≡ false → T (not (is_nan w))
-unfolding is_nan ne eq
-is_number nan e = absurd (subst (λ (t : Bool). T (not t)) (sym e) tt)
-is_number (inf n) e = tt
-is_number (fin n m x) e = tt
 
 -- the sign is the highest bit
 below_sign : (w : Float) → Plain w → T (fits binary32 w) → to_bits binary32 w < 2147483648
@@ -57,9 +50,20 @@ pub weight_back : (w : Float) → fits binary32 w ≡ true → (b : ℕ) → b �
 weight_back w f b e p =
     let h : T (fits binary32 w) = subst T (sym f) tt in rw (e, le-leb (to_bits binary32 w) 0x7F80_0000 (plain_bits w p h)) (of_bits-to_bits binary32 w h)
 
--- a weight has bits of its own
-pub differs_plain : (w : Float) → ne w w ≡ true → Plain w → ⊥
-differs_plain w e p = subst Plain (differs_from_itself w (subst T (sym e) tt)) p
+-- what is no number has the bits of 0, and is no weight
+pub bits_of_nan : (w : Float) → is_nan w ≡ true → (0 ≡ weight_bits w) × (Plain w → weight_in 0 ≡ w)
+unfolding is_nan ne eq
+bits_of_nan nan e = (refl, λ p. absurd p)
+bits_of_nan (inf n) e = absurd (subst (λ (t : Bool). T (not t)) e tt)
+bits_of_nan (fin n m x) e = absurd (subst (λ (t : Bool). T (not t)) e tt)
+
+pub bits_of_number : (w : Float) → is_nan w ≡ false → to_bits binary32 w ≡ weight_bits w
+unfolding is_nan
+bits_of_number w e = go (ne w w) refl
+  where
+    go : (b : Bool) → ne w w ≡ b → to_bits binary32 w ≡ cond b 0 (to_bits binary32 w)
+    go false q = refl
+    go true q = absurd (subst (λ (t : Bool). T (not t)) (sym e ∙ ap is_nan (differs_from_itself w (subst T (sym q) tt))) tt)
 
 -- ---- words
 
@@ -86,6 +90,16 @@ word_told a w b r k ew eb hb er hr ek = (rw (← ew, ← eb.0, ← er, ← ek), 
 
     back : PlainRecord a → record_in (b * 65536 + r * 256 + k) ≡ a
     back p = let q = parts (b * 65536 + r * 256 + k) refl in rw (q.0, q.1, q.2, eb.1 (rw ew p), ek, er, ew) (record_back a)
+
+-- that of a record without register and weight is what it is alone
+pub kind_told :
+    (a : Assignment) (k : ℕ) → reg_in a ≡ 0 → record_weight a ≡ zero_weight → k ≡ kind_of a
+    → (k ≡ record_word a) × (PlainRecord a → record_in k ≡ a)
+unfolding ne eq to_bits of_bits
+kind_told a k er ew ek =
+    let e : 0 * 65536 + 0 * 256 + k ≡ k = omega arith in
+    subst (λ (x : ℕ). (x ≡ record_word a) × (PlainRecord a → record_in x ≡ a)) e
+    (word_told a zero_weight 0 0 k (sym ew) (refl, λ p. refl) (omega arith) (sym er) (omega arith) ek)
 
 -- the word of a record that nothing happened to
 pub first_word_lem : record_word (Unassigned false) ≡ 0

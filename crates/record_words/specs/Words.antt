@@ -1,12 +1,12 @@
 -- A record as a word (document 01, "Where the Rust's forms give way": `Assignment`), for callers that hold records in lent numbers. Assumes nothing.
-use Rattle.std.specs.Prelude.{ℕ, ◌+◌, ◌*◌, ◌%◌, ◌/◌, ◌≡◌, List, map, cond, leb, Float, get_or}
+use Rattle.std.specs.Prelude.{ℕ, ◌+◌, ◌*◌, ◌%◌, ◌/◌, ◌≡◌, List, map, cond, Float, get_or}
 use Rattle.std.specs.Float.{binary32}
-use Rattle.std.specs.Float.Ieee.{of_bits, to_bits, ne}
+use Rattle.std.specs.Float.Ieee.{to_bits, ne}
 use Rattle.reg_matrix.specs.Lists.{count}
 use Rattle.job.specs.Model.{Plain}
 use Rattle.allocator.specs.declared.Assignment.{Assignment}
 use Rattle.allocator.specs.declared.Assignment.TheVariants.{Dead}
-use Rattle.records.specs.Fields.{reg_in, record_weight, kind_of, record_by}
+use Rattle.records.specs.Fields.{reg_in, record_weight, kind_of, record_by, weight_in}
 
 -- ---- to a word
 
@@ -19,10 +19,6 @@ abbrev pub record_word : Assignment → ℕ
 record_word a = weight_bits (record_weight a) * 65536 + reg_in a * 256 + kind_of a
 
 -- ---- and back
-
--- the weight of these bits, or 0
-abbrev pub weight_in : ℕ → Float
-weight_in b = cond (leb b 0x7F80_0000) (of_bits binary32 b) (of_bits binary32 0)
 
 -- every word is a record's
 unfoldable pub record_in : ℕ → Assignment

@@ -1,44 +1,36 @@
-// The records in lent numbers, a word for each: for callers that hold no `Assignment`, as firmware, and for runs, which lend them where 512 records would
-// be copied at every call.
+// The records in lent numbers, a word for each: for callers that hold no `Assignment`, as firmware, and for runs, which lend them where 512 records
+// would be copied at every call.
 #![tactic(auto)]
 
 ghost use Rattle.std.specs.Prelude.{◌≡◌, map, ◌≤◌, length, get_or, set, drop};
 ghost use Rattle.std.proofs.lemmas.List.Edits.{sets};
 ghost use Rattle.job.specs.Model.{Plain};
 ghost use Rattle.allocator.specs.declared.Assignment.TheVariants.{Dead};
-ghost use Rattle.records.specs.Fields.{record_weight};
-ghost use Rattle.record_words.specs.Words.{weight_bits, weight_in, record_word, record_in, records_in, PlainRecord, AllPlain};
+ghost use Rattle.records.specs.Fields.{record_weight, weight_in};
+ghost use Rattle.record_words.specs.Words.{weight_bits, record_word, record_in, records_in, PlainRecord, AllPlain};
 
 use allocator::Assignment;
 use lent::{at, put};
-use records::assignment::{held_weight, kind_of, record_by, reg_of};
+use records::assignment::{held, kind_of, record_by, weight_in};
+use std::array;
 
-// The bits of a weight. What is no number, and so differs from itself, has those of 0.
+// The bits of a weight. What is no number has those of 0.
 fn weight_bits(w: f32) -> u32
     ensures { (result ≡ weight_bits w) × (Plain w → weight_in result ≡ w) }
 {
-    if w != w { 0 } else { f32::to_bits(w) }
+    if w.is_nan() { 0 } else { w.to_bits() }
 }
 
-// The weight of these bits, or 0.
-#[tactic(auto, using(job::proofs::WeightBits::not_nan))]
-fn weight_in(bits: u32) -> f32
-    ensures { result ≡ weight_in bits }
-{
-    if bits <= 0x7F80_0000 {
-        f32::from_bits(bits)
-    } else {
-        0.0
-    }
-}
-
-// The word of a record: what it is, from bit 8 on its register and from bit 16 on the bits of its weight. What is read from it is the record again, if
-// its weight is no NaN and carries no sign.
+// The word of a record: what it is, from bit 8 on its register and from bit 16 on the bits of its weight. What is read from it is the record again,
+// if its weight is no NaN and carries no sign.
 pub fn word_of(a: Assignment) -> u64
     ensures { (result ≡ record_word a) × (PlainRecord a → record_in result ≡ a) }
 {
-    let bits = weight_bits(held_weight(a));
-    bits as u64 * 65536 + reg_of(a) as u64 * 256 + kind_of(a) as u64
+    let kind = kind_of(a) as u64;
+    match held(a) {
+        Some(c) => weight_bits(c.preference_weight) as u64 * 65536 + c.reg as u64 * 256 + kind,
+        None => kind,
+    }
 }
 
 // The record of a word, in which firmware lends it. Every word has one: what is no word of a record stands for a dead one.
@@ -79,11 +71,11 @@ pub fn put_record(words: &mut [u64], v: u16, a: Assignment)
 pub fn held_at(words: &[u64], i: usize) -> f32
     ensures { result ≡ record_weight (record_in (get_or words.now i 0)) }
 {
-    held_weight(record_of(at(words, i)))
+    held(record_of(at(words, i))).map_or(0.0, |c| c.preference_weight)
 }
 
-// Stores the words of the records, one after another from the front. What there is no room for is not stored. Read again, they are the records, if all
-// weights are no NaN and carry no sign.
+// Stores the words of the records, one after another from the front. What there is no room for is not stored. Read again, they are the records, if
+// all weights are no NaN and carry no sign.
 pub fn store(records: [Assignment; 512], words: &mut [u64])
     ensures words_after { words.new ≡ sets words.old 0 (map record_word records) }
     ensures read_back { AllPlain records → 512 ≤ length words.old → records_in words.new ≡ records }
@@ -97,13 +89,7 @@ pub fn store(records: [Assignment; 512], words: &mut [u64])
 pub fn read(words: &[u64]) -> [Assignment; 512]
     ensures { result ≡ records_in words.now }
 {
-    let mut all = [Assignment::Unassigned {
-        evicted_for_preference: false,
-    }; 512];
-    for (i, record) in all.iter_mut().enumerate() {
-        *record = record_of(at(words, i));
-    }
-    all
+    array::from_fn(|i| record_of(at(words, i)))
 }
 
 // Stores the first 512 words anew, each as the word of the record that it reads as. What is not there is not stored. Read again, they are the same

@@ -1,5 +1,7 @@
 -- What a record says, whichever of its three cases it is (01, "Where the Rust's forms give way": `Assignment`). Assumes nothing.
-use Rattle.std.specs.Prelude.{ℕ, List, Bool, true, false, cond, eqb, Float, replicate}
+use Rattle.std.specs.Prelude.{ℕ, List, Bool, true, false, cond, eqb, leb, Float, replicate}
+use Rattle.std.specs.Float.{binary32}
+use Rattle.std.specs.Float.Ieee.{of_bits}
 use Rattle.job.specs.Model.{zero_weight}
 use Rattle.allocator.specs.declared.Assignment.{Assignment}
 use Rattle.allocator.specs.declared.Assignment.TheVariants.{Assigned, Unassigned, Dead}
@@ -43,6 +45,10 @@ record_by k r w =
     (cond (eqb k 1) (Unassigned true)
     (cond (eqb k 4) (Assigned false r w)
     (cond (eqb k 5) (Assigned true r w) Dead)))
+
+-- the weight of these bits, or 0
+abbrev pub weight_in : ℕ → Float
+weight_in b = cond (leb b 0x7F80_0000) (of_bits binary32 b) (of_bits binary32 0)
 
 -- ---- all of them
 

@@ -1,8 +1,10 @@
 // What a record says, whichever of its three cases it is, and a record by its three parts: what it is, as a number; its register; its weight.
-ghost use Rattle.std.specs.Prelude.{◌≡◌};
-ghost use Rattle.records.specs.Fields.{flag_in, is_held, reg_in, record_weight, kind_of, record_by};
+ghost use Rattle.std.specs.Prelude.{◌≡◌, true, false};
+ghost use Rattle.std.specs.Option.{MatchOption};
+ghost use Rattle.job.specs.Model.{zero_weight};
+ghost use Rattle.records.specs.Fields.{flag_in, is_held, reg_in, record_weight, kind_of, record_by, weight_in};
 
-use allocator::Assignment;
+use allocator::{Assignment, CandidateReg};
 
 // Whether a record has its evicted-for-preference flag on.
 pub fn flag_of(a: Assignment) -> bool
@@ -20,33 +22,20 @@ pub fn flag_of(a: Assignment) -> bool
     }
 }
 
-// Whether a record holds a register. One line for a case: `matches!` is the form for it.
-pub fn is_assigned(a: Assignment) -> bool
-    ensures { result ≡ is_held a }
-{
-    matches!(a, Assignment::Assigned { .. })
-}
-
-// The register that a record holds, or 0.
-pub fn reg_of(a: Assignment) -> u8
-    ensures { result ≡ reg_in a }
-{
-    match a {
-        Assignment::Assigned { reg, .. } => reg,
-        _ => 0,
-    }
-}
-
-// The weight with which a record holds its register, or 0. One line, like `reg_of` of another field: one function for both would be no plainer.
-pub fn held_weight(a: Assignment) -> f32
-    ensures { result ≡ record_weight a }
+// The register that a record holds, with the weight with which it does.
+pub fn held(a: Assignment) -> Option<CandidateReg>
+    ensures { MatchOption result ((is_held a ≡ false) × (reg_in a ≡ 0) × (record_weight a ≡ zero_weight)) (λ c. (is_held a ≡ true) × (reg_in a ≡ c.reg) × (record_weight a ≡ c.preference_weight)) }
 {
     match a {
         Assignment::Assigned {
+            reg,
             preference_weight,
             ..
-        } => preference_weight,
-        _ => 0.0,
+        } => Some(CandidateReg {
+            reg,
+            preference_weight,
+        }),
+        _ => None,
     }
 }
 
@@ -77,5 +66,17 @@ pub fn record_by(kind: u8, reg: u8, weight: f32) -> Assignment
             preference_weight: weight,
         },
         _ => Assignment::Dead,
+    }
+}
+
+// The weight of these bits, or 0 where they are no number or carry the sign.
+#[tactic(auto, using(job::proofs::WeightBits::not_nan))]
+pub fn weight_in(bits: u32) -> f32
+    ensures { result ≡ weight_in bits }
+{
+    if bits <= 0x7F80_0000 {
+        f32::from_bits(bits)
+    } else {
+        0.0
     }
 }

@@ -5,19 +5,8 @@ ghost use Rattle.std.specs.Float.Ieee.{of_bits};
 ghost use Rattle.allocator.specs.declared.Assignment.TheVariants.{Assigned, Unassigned};
 ghost use Rattle.records.specs.Fields.{flag_in};
 
-use crate::assignment::flag_of;
+use crate::assignment::{flag_of, weight_in};
 use allocator::Assignment;
-
-// The weight of these bits. Test 9 lets no others through.
-#[tactic(auto, using(job::proofs::WeightBits::not_nan))]
-fn weight_of(bits: u32) -> f32
-    ensures { bits < 0x7F80_0000 → result ≡ of_bits binary32 bits }
-{
-    if 0x7F80_0000 <= bits {
-        return 0.0;
-    }
-    f32::from_bits(bits)
-}
 
 // The record of a number that takes the register with the weight of these bits. It keeps its flag.
 pub fn placed(before: Assignment, reg: u8, weight: u32) -> Assignment
@@ -27,7 +16,7 @@ pub fn placed(before: Assignment, reg: u8, weight: u32) -> Assignment
     Assignment::Assigned {
         evicted_for_preference: flag,
         reg,
-        preference_weight: weight_of(weight),
+        preference_weight: weight_in(weight),
     }
 }
 

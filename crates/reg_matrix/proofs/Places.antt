@@ -10,6 +10,7 @@ use mathlib.Core.List.{List, [], ◌∷◌, ◌++◌, map, append_assoc}
 use mathlib.Core.Bool.{Bool, true, false, ◌||◌}
 use lib.ListN.{length, get_or, take, drop, replicate, drop_of_length-le, length-append, length-replicate, get_or-append, get_or-eq_default}
 use lib.Seq.{get_or-append-add, drop-cons, take_all}
+use Rattle.std.specs.List.{list_any, range_with_len}
 use Rattle.reg_matrix.specs.Lists.{keep, filter, any, foldl, concat_map, count, padded, put_before, insert_by}
 use Rattle.reg_matrix.proofs.Members.{◌∈◌}
 
@@ -144,3 +145,9 @@ pub count_append : (i m n : ℕ) → count i (m + n) ≡ count i m ++ count (i +
 unfolding count
 count_append i zero n = simp (zero-add, add-zero)
 count_append i (suc m) n = rw (suc-add, add-suc, ← suc-add i m) (ap (λ (l : List ℕ). i ∷ l) (count_append (suc i) m n))
+
+-- a test over a range
+pub any_range : (p : ℕ → Bool) (i n : ℕ) → list_any p (range_with_len i n) ≡ any p (count i n)
+unfolding any count
+any_range p i zero = refl
+any_range p i (suc n) = ap (λ (b : Bool). p i || b) (rw (add-one i) (any_range p (suc i) n))

@@ -6,7 +6,7 @@ ghost use Rattle.std.specs.Prelude.{◌≡◌};
 ghost use Rattle.reg_matrix.specs.Refused.{number_of};
 
 // 01, "The job": a part of a virtual register's live range, half-open, with the value that lives in it. A point's low two bits are its slot.
-#[derive(Clone, Copy)]
+#[derive(Clone, Copy, Default)]
 pub struct ValueSegment {
     pub from: u32,
     pub to: u32,

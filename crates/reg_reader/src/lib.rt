@@ -1,4 +1,5 @@
-// Reading a job: its registers and its classes from bytes into lent numbers, as the parsers of the crate job say.
+// Reading a job: its registers and its classes from bytes into lent numbers, as the parsers of the crate job say. The loops go by number: all that
+// the bytes should have is read, and what is lent may be shorter.
 #![tactic(auto)]
 
 ghost use Rattle.std.specs.Prelude.{◌≡◌, [], ◌+◌, ◌*◌, ◌≤◌, length};
@@ -93,6 +94,8 @@ pub fn classes(
 }
 
 // The registers where their bit stands: how many.
+// A count and as many, as in `fixed_table` of fixed_reader: a function for both would take a closure with the contract of what it reads and stores,
+// which is longer than these lines.
 pub fn reg_table(reader: &mut Reader<'_>, stands: bool, maps: &mut [u64]) -> Result<u64, Refusal>
     ensures same { reader.new.bytes ≡ reader.old.bytes }
     ensures read { Counted (left reader.new) (table_of stands 1 64 (λ before. register_of) (left reader.old)) length 64 result (λ ms. Stored (λ x. x) maps.old 0 ms maps.new) }

@@ -1,9 +1,8 @@
-// Reads jobs from standard input, each after its length in four bytes, the lowest first, and prints the sheet of each, one after another. It ends with
-// the input, or at a length that is above 32,769 or that the input does not have.
+// Reads jobs from standard input, each after its length in four bytes, the lowest first, and prints the sheet of each, one after another. It ends
+// with the input, or at a length that is above 32,769 or that the input does not have.
 #![tactic(auto)]
 
 use io::read_full;
-use lent::part;
 use printer::write_sheet;
 use script_bytes::input::Input;
 
@@ -12,27 +11,22 @@ const STDIN_FILENO: i32 = 0;
 
 const STDOUT_FILENO: i32 = 1;
 
-// Reads the next job into what is lent and prints its sheet, and answers whether there was one.
-fn replay(job: &mut [u8]) -> bool {
-    let Some(length) = Input { left: 4 }.read_number(4) else {
-        return false;
-    };
-    let n = length as usize;
-    if job.len() < n {
-        return false;
+// Reads the next job into what is lent and prints its sheet, if there is one.
+fn replay(room: &mut [u8]) -> Option<()> {
+    let length = Input { left: 4 }.read_number::<4>()?;
+    let job = room.get_mut(..length as usize)?;
+    if read_full(STDIN_FILENO, job) < job.len() {
+        return None;
     }
-    if read_full(STDIN_FILENO, &mut job[..n]) < n {
-        return false;
-    }
-    write_sheet(STDOUT_FILENO, part(job, 0, n));
-    true
+    write_sheet(STDOUT_FILENO, job);
+    Some(())
 }
 
 fn main() {
     let mut job = [0u8; 32769];
     // a proved loop has to end, and nothing says that an input does: no input has as many jobs
     for _ in 0..u64::MAX {
-        if !replay(&mut job) {
+        if replay(&mut job).is_none() {
             return;
         }
     }

@@ -4,19 +4,17 @@
 use script_bytes::input::Input;
 use scripts::run_script;
 
-// Reads the next script and prints its transcript, and answers whether there was one.
-fn replay() -> bool {
-    let Some(length) = Input { left: 4 }.read_number(4) else {
-        return false;
-    };
+// Reads the next script and prints its transcript, if there is one.
+fn replay() -> Option<()> {
+    let length = Input { left: 4 }.read_number::<4>()?;
     run_script(length);
-    true
+    Some(())
 }
 
 fn main() {
     // a proved loop has to end, and nothing says that an input does: no input has as many scripts
     for _ in 0..u64::MAX {
-        if !replay() {
+        if replay().is_none() {
             return;
         }
     }

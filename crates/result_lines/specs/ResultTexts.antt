@@ -1,4 +1,5 @@
--- How a virtual register stands, as a line of the sheet (document 01, "The printed sheet"), and how a run ended, by its word's number. Assumes nothing.
+-- How a virtual register stands, as a line of the sheet (document 01, "The printed sheet"), and how a run ended, by its word's number.
+-- Assumes nothing.
 use Rattle.std.specs.Prelude.{ℕ, List, ◌++◌, cond, eqb}
 use Rattle.reg_matrix.specs.Lists.{ascii}
 use Rattle.reg_matrix.specs.Lines.{number, line}

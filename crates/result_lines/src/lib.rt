@@ -1,15 +1,15 @@
-// The lines of the sheet that tell how a run ended, how a virtual register stands, and a refusal (01, "The printed sheet"), each stored from the front of
-// a lent line. What a line has no room for is not stored.
+// The lines of the sheet that tell how a run ended, how a virtual register stands, and a refusal (01, "The printed sheet"), each stored from the
+// front of a lent line. What a line has no room for is not stored.
 #![tactic(auto)]
 
 ghost use Rattle.std.specs.Prelude.{◌≡◌};
 ghost use Rattle.reg_matrix.specs.Lines.{refused_line};
 ghost use Rattle.allocator.specs.Sheet.{end_word, end_line, standing as standing_of};
-ghost use Rattle.texts.specs.Texts.{Stored};
+ghost use Rattle.texts.specs.Texts.{Stored, StoredIn};
 ghost use Rattle.result_lines.specs.ResultTexts.{standing_text, ending_in};
 
 use allocator::{Assignment, Ending};
-use texts::{byte, number, spaced, text};
+use texts::Line;
 
 // How a run ended, by its word's number: 1 done, 2 spent, and any other toomany. C and the answers of a list of calls have the word as this number.
 #[tactic(auto, unfolding(crate::specs::ResultTexts::ending_in))]
@@ -24,13 +24,14 @@ pub fn ending_of(n: u64) -> Ending
 }
 
 #[tactic(auto, unfolding(reg_matrix::specs::Lists::ascii))]
-fn end_word(line: &mut [u8], at: usize, ending: Ending) -> usize
-    ensures { Stored line.old at (end_word ending) line.new result }
+fn end_word(line: &mut Line<'_>, ending: Ending)
+    ensures same { line.new.bytes.ghost_name ≡ line.old.bytes.ghost_name }
+    ensures stored { StoredIn line.old (end_word ending) line.new }
 {
     match ending {
-        Ending::Done => text(line, at, b"done"),
-        Ending::Spent => text(line, at, b"spent"),
-        Ending::TooMany => text(line, at, b"toomany"),
+        Ending::Done => line.text(b"done"),
+        Ending::Spent => line.text(b"spent"),
+        Ending::TooMany => line.text(b"toomany"),
     }
 }
 
@@ -38,32 +39,37 @@ fn end_word(line: &mut [u8], at: usize, ending: Ending) -> usize
 pub fn end_line(line: &mut [u8], ending: Ending, dequeues: u64) -> usize
     ensures { Stored line.old 0 (end_line ending dequeues) line.new result }
 {
-    let a = text(line, 0, b"end ");
-    let b = end_word(line, a, ending);
-    let c = spaced(line, b, dequeues);
-    byte(line, c, b'\n')
+    let mut out = Line { bytes: line, at: 0 };
+    out.text(b"end ");
+    end_word(&mut out, ending);
+    out.spaced(dequeues);
+    out.byte(b'\n');
+    out.at
 }
 
 // `refused N`.
 pub fn refused_line(line: &mut [u8], n: u64) -> usize
     ensures { Stored line.old 0 (refused_line n) line.new result }
 {
-    let a = text(line, 0, b"refused ");
-    let b = number(line, a, n);
-    byte(line, b, b'\n')
+    let mut out = Line { bytes: line, at: 0 };
+    out.text(b"refused ");
+    out.number(n);
+    out.byte(b'\n');
+    out.at
 }
 
 #[tactic(auto, unfolding(reg_matrix::specs::Lists::ascii))]
-fn standing(line: &mut [u8], at: usize, assignment: Assignment) -> usize
-    ensures { Stored line.old at (standing_of assignment) line.new result }
+fn standing(line: &mut Line<'_>, assignment: Assignment)
+    ensures same { line.new.bytes.ghost_name ≡ line.old.bytes.ghost_name }
+    ensures stored { StoredIn line.old (standing_of assignment) line.new }
 {
     match assignment {
         Assignment::Assigned { reg, .. } => {
-            let next = text(line, at, b" reg ");
-            number(line, next, reg as u64)
+            line.text(b" reg ");
+            line.number(reg as u64);
         }
-        Assignment::Unassigned { .. } => text(line, at, b" wait"),
-        Assignment::Dead => text(line, at, b" left"),
+        Assignment::Unassigned { .. } => line.text(b" wait"),
+        Assignment::Dead => line.text(b" left"),
     }
 }
 
@@ -71,8 +77,10 @@ fn standing(line: &mut [u8], at: usize, assignment: Assignment) -> usize
 pub fn standing_line(line: &mut [u8], v: u16, assignment: Assignment) -> usize
     ensures { Stored line.old 0 (standing_text v assignment) line.new result }
 {
-    let a = text(line, 0, b"v ");
-    let b = number(line, a, v as u64);
-    let c = standing(line, b, assignment);
-    byte(line, c, b'\n')
+    let mut out = Line { bytes: line, at: 0 };
+    out.text(b"v ");
+    out.number(v as u64);
+    standing(&mut out, assignment);
+    out.byte(b'\n');
+    out.at
 }

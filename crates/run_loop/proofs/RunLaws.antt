@@ -1,4 +1,5 @@
--- A dequeue and a run in code on a state that calls reach: after each dequeue the rest of the run from there is the rest of the whole. Assumes nothing.
+-- A dequeue and a run in code on a state that calls reach: after each dequeue the rest of the run from there is the rest of the whole.
+-- Assumes nothing.
 use Prim.Native.Nat.{ℕ, zero, suc, ◌-◌, ◌≤◌}
 use native.Mathlib.Omega.{arith}
 use mathlib.Core.Path.{◌≡◌, refl, sym, ap, ◌∙◌, subst}
@@ -23,6 +24,7 @@ use Rattle.allocator.specs.Reached.{Reached}
 use Rattle.allocator.proofs.Agrees.{queued_at}
 use Rattle.allocator.proofs.Runs.{next_queued}
 use Rattle.allocator.proofs.Good.{good_reached, reached_dequeue}
+use Rattle.queue.specs.declared.Queued.{Queued as Next}
 use Rattle.queue.specs.QueueWalk.{decoded, next_number}
 use Rattle.stage.proofs.QueueLaws.{tournament_length, greatest_next}
 use Rattle.records.specs.Fields.{flag_in}
@@ -126,14 +128,14 @@ module _ (j : Job) (x : State) (reach : Reached j x) (t queue : List ℕ) (is : 
       go none q = refl
       go (some k) q = cc
 
-  some_next : (v : ℕ) (q : Stage) → decoded (get_or queue 1 0) ≡ Some (v, q) → (k : Queued) × (next_of j x ≡ some k) × (k.number ≡ v) × (k.stage ≡ q)
-  some_next v q e = go (next_of j x) refl (sym named_next ∙ e)
+  some_next : (n : Next) → decoded (get_or queue 1 0) ≡ Some n → (k : Queued) × (next_of j x ≡ some k) × (k.number ≡ n.number) × (k.stage ≡ n.stage)
+  some_next n e = go (next_of j x) refl (sym named_next ∙ e)
     where
-      go : (o : Option Queued) → next_of j x ≡ o → next_number o ≡ Some (v, q) → (k : Queued) × (next_of j x ≡ some k) × (k.number ≡ v) × (k.stage ≡ q)
+      go : (o : Option Queued) → next_of j x ≡ o → next_number o ≡ Some n → (k : Queued) × (next_of j x ≡ some k) × (k.number ≡ n.number) × (k.stage ≡ n.stage)
       go none p r = cc
       go (some k) p r =
-          let e : ◌≡◌ {A = ℕ × Stage} (k.number, k.stage) (v, q) = cc in
-          (k, p, ap (λ (y : ℕ × Stage). y.0) e, ap (λ (y : ℕ × Stage). y.1) e)
+          let e : (let m : Next = record { number = k.number; stage = k.stage } in m) ≡ n = cc in
+          (k, p, ap (λ (y : Next). y.number) e, ap (λ (y : Next). y.stage) e)
 
 -- ---- the loop
 
@@ -188,41 +190,41 @@ module _ (budget : ℕ) (B : JobBuffers) (S : StateBuffers) (W : List ℕ) where
           let z = nobody_next j o.x o.lent_so.reached t.queue S'.queue o.lent_so.stands.moves.queue_is nobody in
           (o.x, sym (from_nobody j o.x left (budget - left) z) ∙ o.whole, o.lent_so.stands, o.lent_so.records_are))
 
-      module _ (v : ℕ) (q : Stage) (next : decoded (get_or S'.queue 1 0) ≡ Some (v, q)) where
+      module _ (n : Next) (next : decoded (get_or S'.queue 1 0) ≡ Some n) where
         -- the budget is spent
         pub run_spent : left ≡ 0 → (r : RunEnd) → r ≡ record { ending = Spent; dequeues = budget } → RunMade budget B S W S' W' r
         run_spent none_left =
             ends_with Spent budget
             (λ j s t l.
             let o = so_far.onward j s t l in
-            let k = some_next j o.x o.lent_so.reached t.queue S'.queue o.lent_so.stands.moves.queue_is v q next in
-            let n : budget ≡ budget - left = omega (arith, none_left) in (
+            let k = some_next j o.x o.lent_so.reached t.queue S'.queue o.lent_so.stands.moves.queue_is n next in
+            let b : budget ≡ budget - left = omega (arith, none_left) in (
               o.x,
-              ap (λ (m : ℕ). ran Spent m o.x) n ∙ sym (from_spent j o.x (budget - left) k.0 k.1) ∙ ap (λ (m : ℕ). run_from m j (budget - left) (goes_on o.x)) (sym none_left) ∙ o.whole,
+              ap (λ (m : ℕ). ran Spent m o.x) b ∙ sym (from_spent j o.x (budget - left) k.0 k.1) ∙ ap (λ (m : ℕ). run_from m j (budget - left) (goes_on o.x)) (sym none_left) ∙ o.whole,
               o.lent_so.stands,
               o.lent_so.records_are,
             ))
 
 -- one more dequeue is made
 module _ (budget : ℕ) (B : JobBuffers) (S : StateBuffers) (W : List ℕ) (S' : StateBuffers) (W' : List ℕ) (left : ℕ) (so_far : RunTo budget left B S W S' W')
-    (v : ℕ) (q : Stage) (next : decoded (get_or S'.queue 1 0) ≡ Some (v, q))
-    (more : left ≡ 0 → ⊥) (S'' : StateBuffers) (W'' : List ℕ) (over : Bool) (step : DequeueMade v q B S' W' S'' W'' over) where
+    (n : Next) (next : decoded (get_or S'.queue 1 0) ≡ Some n)
+    (more : left ≡ 0 → ⊥) (S'' : StateBuffers) (W'' : List ℕ) (over : Bool) (step : DequeueMade n.number n.stage B S' W' S'' W'' over) where
   -- what it leaves
   record Left (j : Job) (s : State) (t : StateBuffers) : Type 0 where
     pub before : State
-    pub lent_so : LentTo j (state_of (dequeue j before v q)) t B S'' W''
-    pub ends_so : over ≡ is_over (dequeue j before v q)
-    pub whole : (y : Step) → dequeue j before v q ≡ y → run_from (left - 1) j (budget - (left - 1)) y ≡ run j budget s
+    pub lent_so : LentTo j (state_of (dequeue j before n.number n.stage)) t B S'' W''
+    pub ends_so : over ≡ is_over (dequeue j before n.number n.stage)
+    pub whole : (y : Step) → dequeue j before n.number n.stage ≡ y → run_from (left - 1) j (budget - (left - 1)) y ≡ run j budget s
 
   left_by : (j : Job) (s : State) (t : StateBuffers) → LentTo j s t B S W → Left j s t
   left_by j s t l =
       let o = so_far.onward j s t l in
-      let k = some_next j o.x o.lent_so.reached t.queue S'.queue o.lent_so.stands.moves.queue_is v q next in
-      let queued : queued_at o.x v ≡ some q = subst (λ (n : ℕ). queued_at o.x n ≡ some q) k.2 (next_queued j o.x k.0 k.1 ∙ ap some k.3) in
-      let alike : dequeue j o.x k.0.number k.0.stage ≡ dequeue j o.x v q = ap (λ (n : ℕ). dequeue j o.x n k.0.stage) k.2 ∙ ap (dequeue j o.x v) k.3 in
+      let k = some_next j o.x o.lent_so.reached t.queue S'.queue o.lent_so.stands.moves.queue_is n next in
+      let queued : queued_at o.x n.number ≡ some n.stage = subst (λ (v : ℕ). queued_at o.x v ≡ some n.stage) k.2 (next_queued j o.x k.0 k.1 ∙ ap some k.3) in
+      let alike : dequeue j o.x k.0.number k.0.stage ≡ dequeue j o.x n.number n.stage = ap (λ (v : ℕ). dequeue j o.x v k.0.stage) k.2 ∙ ap (dequeue j o.x n.number) k.3 in
       let after = step.made j o.x t o.lent_so queued in
       let a : left ≡ suc (left - 1) = omega (arith, more) in
-      let n : budget - (left - 1) ≡ suc (budget - left) = omega (arith, more, so_far.within) in
+      let b : budget - (left - 1) ≡ suc (budget - left) = omega (arith, more, so_far.within) in
       record {
         before = o.x;
         lent_so =
@@ -235,7 +237,7 @@ module _ (budget : ℕ) (B : JobBuffers) (S : StateBuffers) (W : List ℕ) (S' :
         ends_so = after.2;
         whole =
             λ y e.
-            ap (λ (m : ℕ). run_from (left - 1) j m y) n
+            ap (λ (m : ℕ). run_from (left - 1) j m y) b
             ∙ ap (run_from (left - 1) j (suc (budget - left))) (sym (alike ∙ e))
             ∙ sym (from_step j o.x (left - 1) (budget - left) k.0 k.1)
             ∙ ap (λ (m : ℕ). run_from m j (budget - left) (goes_on o.x)) (sym a)
@@ -249,7 +251,7 @@ module _ (budget : ℕ) (B : JobBuffers) (S : StateBuffers) (W : List ℕ) (S' :
         onward =
             λ j s t l.
             let o = left_by j s t l in
-            record { x = state_of (dequeue j o.before v q); lent_so = o.lent_so; whole = o.whole _ (goes_on_lem _ (sym o.ends_so ∙ e)) };
+            record { x = state_of (dequeue j o.before n.number n.stage); lent_so = o.lent_so; whole = o.whole _ (goes_on_lem _ (sym o.ends_so ∙ e)) };
       }
 
   pub run_toomany : over ≡ true → (r : RunEnd) → r ≡ record { ending = TooMany; dequeues = budget - (left - 1) } → RunMade budget B S W S'' W'' r
@@ -257,5 +259,5 @@ module _ (budget : ℕ) (B : JobBuffers) (S : StateBuffers) (W : List ℕ) (S' :
       ends_with budget B S W S'' W'' TooMany (budget - (left - 1))
       (λ j s t l.
       let o = left_by j s t l in
-      let x = state_of (dequeue j o.before v q) in
+      let x = state_of (dequeue j o.before n.number n.stage) in
       (x, sym (from_over j x (left - 1) (budget - (left - 1))) ∙ o.whole _ (is_over_lem _ (sym o.ends_so ∙ e)), o.lent_so.stands, o.lent_so.records_are))

@@ -8,11 +8,11 @@ ghost use Rattle.job_parts.specs.Lent.{slices_of};
 ghost use Rattle.queue.specs.QueueWalk.{decoded};
 ghost use Rattle.run_loop.specs.Running.{state_in, ending_number, DequeueMade, RunMade};
 
-use allocator::{Ending, Stage};
+use allocator::Ending;
 use context::carry::carry_out;
 use decisions::{Decided, decide};
 use job_parts::lent_job::LentJob;
-use queue::greatest;
+use queue::{Queued, greatest};
 use table_words::buffers::LentState;
 
 // How a run ended, and after how many dequeues.
@@ -22,7 +22,8 @@ pub struct RunEnd {
     pub dequeues: u64,
 }
 
-// The number of a run's word, in which the C interface answers.
+// The number of a run's word, in which the C interface answers. A function and no method: the rules give an ending a word and no number, so that
+// what says its number stands here.
 pub fn ending_number(ending: Ending) -> u64
     ensures { result ≡ ending_number ending }
 {
@@ -30,39 +31,30 @@ pub fn ending_number(ending: Ending) -> u64
 }
 
 // The number that is dequeued next, and its stage.
-fn first(state: &LentState<'_>) -> Option<(u16, Stage)>
+fn first(state: &LentState<'_>) -> Option<Queued>
     ensures { result ≡ decoded (get_or state.now.queue.now 1 0) }
 {
     greatest(state.queue)
 }
 
-// A number that waits, and at which stage.
-#[derive(Clone, Copy)]
-struct Queued {
-    number: u16,
-    stage: Stage,
+// Decides the dequeue of the next number and carries it out. Whether the run ends with it, as too many are live.
+fn dequeue(
+    next: Queued,
+    job: LentJob<'_>,
+    state: &mut LentState<'_>,
+    last: &mut [u8],
+    words: &mut [u64],
+) -> bool
+    ensures same { SameState state.old state.new }
+    ensures after { DequeueMade next.number next.stage (lists_in (slices_of job.entry)) (state_in state.old last.old) words.old (state_in state.new last.new) words.new result }
+{
+    let v = next.number;
+    let decided = decide(v, next.stage, words, job, state.as_table(), last);
+    carry_out(&decided, v, job, state, last, words);
+    matches!(decided, Decided::Fails)
 }
 
-impl Queued {
-    // Decides the number's dequeue and carries it out. Whether the run ends with it, as too many are live.
-    fn dequeue(
-        self,
-        job: LentJob<'_>,
-        state: &mut LentState<'_>,
-        last: &mut [u8],
-        words: &mut [u64],
-    ) -> bool
-        ensures same { SameState state.old state.new }
-        ensures after { DequeueMade self.number self.stage (lists_in (slices_of job.entry)) (state_in state.old last.old) words.old (state_in state.new last.new) words.new result }
-    {
-        let v = self.number;
-        let decided = decide(v, self.stage, words, job, state.as_table(), last);
-        carry_out(&decided, v, job, state, last, words);
-        matches!(decided, Decided::Fails)
-    }
-}
-
-// Makes at most `budget` dequeues, where the records stand in the words (`record_words`).
+// Makes at most `budget` dequeues, where the records stand in the words (`record_words`). `dequeues` counts them; there is no list to walk.
 pub fn run_on(
     budget: u64,
     job: LentJob<'_>,
@@ -74,14 +66,13 @@ pub fn run_on(
     ensures after { RunMade budget (lists_in (slices_of job.entry)) (state_in state.old last.old) words.old (state_in state.new last.new) words.new result }
 {
     for dequeues in 0..budget {
-        let Some((number, stage)) = first(state) else {
+        let Some(next) = first(state) else {
             return RunEnd {
                 ending: Ending::Done,
                 dequeues,
             };
         };
-        let next = Queued { number, stage };
-        if next.dequeue(job, state, last, words) {
+        if dequeue(next, job, state, last, words) {
             return RunEnd {
                 ending: Ending::TooMany,
                 dequeues: dequeues + 1,

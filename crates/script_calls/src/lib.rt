@@ -1,6 +1,6 @@
-// The calls and questions of a script (docs/SCRIPT.md) on a loaded job, read from standard input as they come, each printed with what it answers. What
-// the lines say is the business of the crate transcript, what the calls do that of the crates below. Here are the calls, one after another; the job that
-// they are made on is loaded in `loading`.
+// The calls and questions of a script (docs/SCRIPT.md) on a loaded job, read from standard input as they come, each printed with what it answers.
+// What the lines say is the business of the crate transcript, what the calls do that of the crates below. Here are the calls, one after another; the
+// job that they are made on is loaded in `loading`.
 #![tactic(auto)]
 
 ghost use Rattle.std.specs.Prelude.{◌≤◌};
@@ -13,6 +13,8 @@ use call_lists::lists::carry_out_list;
 use job::USES;
 use job_parts::lent_job::LoadedJob;
 use lent::from;
+use lines::LentSheet;
+use matrix::check::InterferenceQuery;
 use records::first_records;
 use script_bytes::input::Input;
 use script_bytes::output::print;
@@ -29,8 +31,8 @@ enum Question {
     IsUnitFree { unit: u64, from: u64, to: u64 },
 }
 
-// What a script has next: a call to make, as the four words that a list of calls has for it, or a question. The words are those of firmware's lists, so
-// that the function that carries out a list serves scripts too, and the replays run it.
+// What a script has next: a call to make, as the four words that a list of calls has for it, or a question. That they are words and no enum is a rule
+// of the project: the function that carries out a list serves scripts too, so that the replays of scripts run what firmware runs.
 #[derive(Clone, Copy, PartialEq, Eq, Debug)]
 enum Call {
     Made([u64; 4]),
@@ -47,22 +49,22 @@ fn read_arguments(input: &mut Input, kind: u64) -> Option<Call>
 {
     match kind {
         1 => {
-            let v = input.read_number(2)?;
-            let reg = input.read_number(1)?;
-            let weight = input.read_number(4)?;
+            let v = input.read_number::<2>()?;
+            let reg = input.read_number::<1>()?;
+            let weight = input.read_number::<4>()?;
             Some(Call::Made([1, v, reg, weight]))
         }
         2 => {
-            let v = input.read_number(2)?;
+            let v = input.read_number::<2>()?;
             Some(Call::Made([2, v, 0, 0]))
         }
         3 => {
-            let budget = input.read_number(4)?;
+            let budget = input.read_number::<4>()?;
             Some(Call::Made([3, budget, 0, 0]))
         }
         4 | 5 => {
-            let reg = input.read_number(1)?;
-            let segments = input.read_number(1)?;
+            let reg = input.read_number::<1>()?;
+            let segments = input.read_number::<1>()?;
             let full = kind == 5;
             Some(Call::Asked(Question::Check {
                 reg,
@@ -71,9 +73,9 @@ fn read_arguments(input: &mut Input, kind: u64) -> Option<Call>
             }))
         }
         6 => {
-            let unit = input.read_number(1)?;
-            let from = input.read_number(4)?;
-            let to = input.read_number(4)?;
+            let unit = input.read_number::<1>()?;
+            let from = input.read_number::<4>()?;
+            let to = input.read_number::<4>()?;
             Some(Call::Asked(Question::IsUnitFree { unit, from, to }))
         }
         _ => None,
@@ -84,7 +86,7 @@ fn read_arguments(input: &mut Input, kind: u64) -> Option<Call>
 fn read_call(input: &mut Input) -> Result<Option<Call>, Bad>
     ensures { CallTook input.old.left input.new.left result }
 {
-    let Some(kind) = input.read_number(1) else {
+    let Some(kind) = input.read_number::<1>() else {
         return Ok(None);
     };
     let call = read_arguments(input, kind).ok_or(Bad)?;
@@ -99,14 +101,16 @@ fn print_records(records: [Assignment; 512], n: u16, line: &mut [u8]) {
     }
 }
 
-// The entries of the table, from the first on.
+// The entries of the table, from the first on. By number: an iterator over their lines would keep `line` lent while it is printed.
 fn print_entries(loaded: LoadedJob<'_>, table: Table<'_>, line: &mut [u8]) {
-    let maps = loaded.job.j64;
+    let sheet = LentSheet {
+        maps: loaded.job.j64,
+        table,
+    };
     for i in 0..2560 {
-        let length = states::entry_line(line, loaded.header, i, maps, table);
-        if length == 0 {
+        let Some(length) = states::entry_line(line, loaded.header, i, sheet) else {
             return;
-        }
+        };
         print(line, length);
     }
 }
@@ -169,20 +173,17 @@ impl Question {
                 reg,
                 segments,
                 full,
-            } => ask_check(
-                input,
-                reg,
-                segments,
-                loaded.header.regs,
-                full,
-                loaded.job.j64,
-                RegMatrix {
-                    table,
-                    uses: from(loaded.job.j64, USES),
-                },
-                line,
-            )
-            .ok_or(Bad),
+            } => {
+                let query = InterferenceQuery {
+                    regs: loaded.job.j64,
+                    count: loaded.header.regs as usize,
+                    reg: reg as usize,
+                    full,
+                };
+                let uses = from(loaded.job.j64, USES);
+                let matrix = RegMatrix { table, uses };
+                ask_check(input, segments, query, matrix, line).ok_or(Bad)
+            }
             Question::IsUnitFree { unit, from, to } => {
                 let _ = ask_unit_free(unit, from, to, table, line);
                 Ok(())

@@ -8,6 +8,7 @@ ghost use Rattle.narrow.specs.Cut.{cut};
 ghost use Rattle.script_bytes.specs.Reading.{Took};
 
 use matrix::Cursor;
+use matrix::check::InterferenceQuery;
 use narrow::Narrow;
 use reg_matrix::{Refusal, ValueSegment};
 use script_bytes::input::Input;
@@ -20,9 +21,9 @@ use unit_free::is_unit_free;
 fn read_segment(input: &mut Input) -> Option<ValueSegment>
     ensures { Took 10 input.old.left input.new.left (is_some result) }
 {
-    let from = input.read_number(4)?;
-    let to = input.read_number(4)?;
-    let value = input.read_number(2)?;
+    let from = input.read_number::<4>()?;
+    let to = input.read_number::<4>()?;
+    let value = input.read_number::<2>()?;
     Some(ValueSegment {
         from: u32::cut(from),
         to: u32::cut(to),
@@ -43,7 +44,8 @@ fn read_segments(input: &mut Input, list: &mut [ValueSegment]) -> Option<()>
 // Prints the reports on these segments from this position on.
 fn print_reports(list: &[ValueSegment], start: Cursor, matrix: RegMatrix<'_>, line: &mut [u8]) {
     let mut here = start;
-    // a `for` is no plainer: each report comes with the position after it, and an iterator would keep what is lent
+    // a `for` is no plainer: an `Iterator` over the reports owes laws of its own (`can_next`, `next_gives`, `remaining`), where the
+    // promise of `next` on one report and the position after it is enough
     while let Some((report, after)) = next_in_list(list, here, matrix) {
         let length = answers::report_line(line, report);
         print(line, length);
@@ -51,17 +53,14 @@ fn print_reports(list: &[ValueSegment], start: Cursor, matrix: RegMatrix<'_>, li
     }
 }
 
-// A check of the segments on the register, in the full or the short form.
+// A check of the segments on a register.
 fn check(
     list: &[ValueSegment],
-    reg: u64,
-    count: u8,
-    full: bool,
-    maps: &[u64],
+    query: InterferenceQuery<'_>,
     matrix: RegMatrix<'_>,
     line: &mut [u8],
 ) {
-    match check_list(list, maps, count as usize, reg as usize, full, matrix) {
+    match check_list(list, query, matrix) {
         Err(refusal) => {
             let length = result_lines::refused_line(line, refusal.number());
             print(line, length);
@@ -74,28 +73,20 @@ fn check(
     }
 }
 
-// Reads the segments of a check, at most 255 of ten bytes each, and makes it, if they are all there, on one of the first `count` registers.
+// Reads the segments of a check, at most 255 of ten bytes each, and makes it, if they are all there.
 pub fn ask_check(
     input: &mut Input,
-    reg: u64,
     segments: u64,
-    count: u8,
-    full: bool,
-    maps: &[u64],
+    query: InterferenceQuery<'_>,
     matrix: RegMatrix<'_>,
     line: &mut [u8],
 ) -> Option<()>
     ensures { Took (10 * cut 255 segments) input.old.left input.new.left (is_some result) }
 {
-    let none = ValueSegment {
-        from: 0,
-        to: 0,
-        value: 0,
-    };
-    let mut room = [none; 255];
+    let mut room = [ValueSegment::default(); 255];
     let list = &mut room[..u8::cut(segments) as usize];
     read_segments(input, list)?;
-    check(list, reg, count, full, maps, matrix, line);
+    check(list, query, matrix, line);
     Some(())
 }
 

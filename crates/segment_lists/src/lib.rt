@@ -8,32 +8,26 @@ ghost use Rattle.table_words.specs.Segments.{froms_of, tos_of, values_of};
 ghost use Rattle.thin.specs.Answers.{lent_to, check_answer};
 
 use matrix::Cursor;
+use matrix::check::InterferenceQuery;
 use reg_matrix::{Interference, Refusal, ValueSegment};
 use table_words::buffers::RegMatrix;
 use thin::check::{check_interference, next};
 
-// Starts a check of the register numbered `reg` among the first `count` maps of units, in the full or the short form, against the segments
-// of a list. It tests 15, 8, 5, 6, 7 in this order, and gives the refusal or the position at the start. More than 255 segments are
-// refused with 15.
-#[tactic(auto, unfolding(thin::specs::Answers::check_answer))]
+// Starts a check of a register against the segments of a list. It tests 15, 8, 5, 6, 7 in this order, and gives the refusal or the position at
+// the start. More than 255 segments are refused with 15.
 pub fn check_list(
     list: &[ValueSegment],
-    regs: &[u64],
-    count: usize,
-    reg: usize,
-    full: bool,
+    query: InterferenceQuery<'_>,
     matrix: RegMatrix<'_>,
 ) -> Result<Cursor, Refusal>
-    ensures { numbered result ≡ check_answer (ltb 255 (length list.now)) regs.now count reg full matrix.entry.table.ends.now matrix.entry.table.rests.now matrix.entry.uses.now (froms_of list.now) (tos_of list.now) (values_of list.now) }
+    ensures { numbered result ≡ check_answer (ltb 255 (length list.now)) query.entry.regs.now query.entry.count query.entry.reg query.entry.full matrix.entry.table.ends.now matrix.entry.table.rests.now matrix.entry.uses.now (froms_of list.now) (tos_of list.now) (values_of list.now) }
 {
-    if 255 < list.len() {
-        return Err(Refusal::ShortBuffer);
-    }
-    check_interference(list, regs, count, reg, full, matrix)
+    check_interference::<255>(list, query, matrix)
 }
 
 // The next report from this position on, with the position after it, or the check's end. It asks nothing of what is lent: of more than 255
-// segments, against which no check starts, there is none, and the answer is the end.
+// segments, against which no check starts, there is none, and the answer is the end. (`thin::check::next` sees the first 512 there, so neither
+// promises what the other does, and both stay.)
 pub fn next_in_list(
     list: &[ValueSegment],
     c: Cursor,

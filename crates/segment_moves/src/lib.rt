@@ -3,7 +3,7 @@
 #![tactic(auto)]
 
 ghost use Rattle.std.specs.Prelude.{◌≡◌, ◌+◌, ◌-◌, ◌*◌, ◌%◌, ◌≤◌, ◌^◌};
-ghost use Rattle.reg_matrix.specs.Layout.{max_entries, max_fixed};
+ghost use Rattle.reg_matrix.specs.Layout.{max_fixed};
 ghost use Rattle.table_words.specs.Search.{place_of};
 ghost use Rattle.table_words.specs.Buffers.{SameTable};
 ghost use Rattle.entries.specs.Moves.{words_in, words_of};
@@ -13,7 +13,7 @@ ghost use Rattle.entries.specs.Placing.{is_own, inserting_uses, first_under, evi
 use entries::table::{insert, insert_use, remove, remove_run};
 use lent::at;
 use table_words::buffers::{Table, TableMut};
-use table_words::search::{find, search};
+use table_words::search::{find, first_past, first_use, search};
 
 // The place of the first fixed use that does not start before p on this unit.
 fn use_place(uses: &[u64], unit: u8, p: u32) -> usize
@@ -34,8 +34,7 @@ fn uses_before(uses: &[u64], unit: u8, p: u32) -> usize
     ensures upper_bound { result ≤ 512 }
 {
     let past = use_place(uses, unit, p);
-    let first = search(uses, 512, unit as u64 * 0x1_0000_0000_0000);
-    past.saturating_sub(first)
+    past.saturating_sub(first_use(uses, unit))
 }
 
 // An entry's index, as it stands in the entry's number: 0 if nothing stands from lo to hi.
@@ -58,13 +57,6 @@ fn end_word(unit: u8, p: u32) -> u64
     unit as u64 * 0x1_0000_0000 + p as u64
 }
 
-// The place of the first entry that ends past p on this unit.
-fn past(ends: &[u64], unit: u8, p: u32) -> usize
-    ensures { result ≡ place_of max_entries ends.now (unit * 2 ^ 32 + p + 1) }
-{
-    find(ends, end_word(unit, p) + 1)
-}
-
 // The second number of the entry of v that takes the place of what stands from lo to hi. The remainder makes it fit, whatever v is.
 fn held_word(uses: &[u64], v: u16, unit: u8, from: u32, lo: usize, hi: usize) -> u64
     ensures { result ≡ held_word (v % 512) from (index_part uses.now unit from lo hi) }
@@ -74,14 +66,15 @@ fn held_word(uses: &[u64], v: u16, unit: u8, from: u32, lo: usize, hi: usize) ->
 }
 
 // One segment on one unit: the entries that end inside it, fixed uses all, give way to an entry of v. A virtual register has a number under 512;
-// of any other its remainder is taken.
+// of any other its remainder is taken. A struct of unit, from and to would be no plainer: on each unit (placing) the same segments are assigned,
+// whose values do not matter here.
 #[tactic(auto, unfolding(entries::specs::Placing::assigning_segment))]
 pub fn assign_segment(table: &mut TableMut<'_>, uses: &[u64], v: u16, unit: u8, from: u32, to: u32)
     ensures same { SameTable table.old table.new }
     ensures after { words_of table.new ≡ assigning_segment uses.now (v % 512) unit (words_of table.old) from to }
 {
-    let lo = past(table.as_table().ends, unit, from);
-    let hi = past(table.as_table().ends, unit, to);
+    let lo = first_past(table.as_table().ends, unit, from);
+    let hi = first_past(table.as_table().ends, unit, to);
     let rest = held_word(uses, v, unit, from, lo, hi);
     remove_run(table, lo, hi.saturating_sub(lo));
     insert(table, end_word(unit, to), rest);
@@ -97,7 +90,8 @@ fn is_own(table: Table<'_>, v: u16, end: u64, place: usize) -> bool
         && at(table.rests, place) % 0x1_0000_0000 / 0x1_0000 == v as u64 + 2
 }
 
-// Puts the fixed uses number `first` to `last` back. By number, since the slice may be shorter: a part of it would have to lie within it.
+// Puts the fixed uses number `first` to `last` back. One number after another, and not over a part of the slice: this asks nothing of the slice, and
+// where it ends before `last`, each number past its end is read as 0, which goes into the table like any other (`inserting_uses`).
 fn insert_uses(table: &mut TableMut<'_>, uses: &[u64], first: usize, last: usize)
     ensures same { SameTable table.old table.new }
     ensures after { words_of table.new ≡ inserting_uses (last - first) first uses.now (words_of table.old) }
@@ -116,7 +110,7 @@ fn first_under(uses: &[u64], unit: u8, rest: u64, last: usize) -> usize
     if index == 0 {
         return last;
     }
-    search(uses, 512, unit as u64 * 0x1_0000_0000_0000) + (index as usize - 1)
+    first_use(uses, unit) + (index as usize - 1)
 }
 
 // One segment on one unit: the entry of v goes, and the fixed uses that it replaced come back.

@@ -1,5 +1,5 @@
--- From a job's bytes to the lines printed (document 01, "The printed sheet"): a job is loaded and run with its budget, and then its sheet comes line by
--- line from a position. Assumes nothing.
+-- From a job's bytes to the lines printed (document 01, "The printed sheet"): a job is loaded and run with its budget, and then its sheet comes line
+-- by line from a position. Assumes nothing.
 use Rattle.std.specs.Prelude.{ℕ, ◌≤◌, ◌≡◌, List, [], ◌∷◌, ◌++◌, map, false, length, take, drop, get_or, Option, Some, None, Result, Ok, Err}
 use Rattle.std.proofs.lemmas.List.Edits.{sets}
 use Rattle.reg_matrix.specs.Lists.{concat_map}

@@ -3,17 +3,18 @@ ghost use Rattle.reg_matrix.specs.Refused.{numbered};
 ghost use Rattle.table_words.specs.Buffers.{SameState};
 ghost use Rattle.job_parts.specs.Lent.{slices_of};
 ghost use Rattle.run_loop.specs.Running.{state_in};
-ghost use Rattle.lines.specs.LineTexts.{lent};
+ghost use Rattle.lines.specs.LineTexts.{sheet_of};
 ghost use Rattle.sheets.specs.Printing.{RunStored, NextLine};
 
 use job_parts::lent_job::LoadedJob;
 use lent::at;
+use lines::LentSheet;
 use listing::Listing;
-use record_words::{record_of, store};
-use records::first_records;
+use record_words::record_of;
 use reg_matrix::Refusal;
 use run_loop::run_on;
-use table_words::buffers::{LentState, Table};
+use stage_loader::store_first_records;
+use table_words::buffers::LentState;
 
 // Runs what was loaded with the job's budget, with its records in the words. The answer is the position before the sheet's first line.
 pub fn run_loaded(
@@ -25,7 +26,7 @@ pub fn run_loaded(
     ensures same { SameState state.old state.new }
     ensures stored { RunStored loaded.entry.header (slices_of loaded.entry.job) (state_in state.old last.old) words.old (state_in state.new last.new) words.new result }
 {
-    store(first_records(), words);
+    store_first_records(words);
     let n = words.len().min(512);
     let all = &mut words[..n];
     let budget = loaded.header.budget as u64;
@@ -38,13 +39,12 @@ pub fn run_loaded(
 #[tactic(auto, using(crate::proofs::NextLaws::next_line))]
 pub fn next(
     position: Listing,
-    maps: &[u64],
-    table: Table<'_>,
+    sheet: LentSheet<'_>,
     words: &[u64],
     line: &mut [u8],
 ) -> Result<Option<(usize, Listing)>, Refusal>
-    ensures { NextLine position (lent maps.now table.entry.ends.now table.entry.rests.now) words.now line.old line.new (numbered result) }
+    ensures { NextLine position (sheet_of sheet.entry) words.now line.old line.new (numbered result) }
 {
     let record = record_of(at(words, position.number()));
-    position.next(record, maps, table, line)
+    position.next(record, sheet, line)
 }

@@ -394,7 +394,7 @@ two true = inl refl
 two false = inr refl
 
 -- a key names its number and its stage
-key_decoded : (j : Job) (v : ℕ) (q : Stage) → v < 512 → decoded (encode j v q + 1) ≡ Some (v, q)
+key_decoded : (j : Job) (v : ℕ) (q : Stage) → v < 512 → decoded (encode j v q + 1) ≡ Some (record { number = v; stage = q })
 unfolding encode decoded
 key_decoded j v Evict h =
     let z = cond (is_nil (virt_reg j v).hints) 0 (2 ^ 62) in

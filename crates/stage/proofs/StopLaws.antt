@@ -1,5 +1,5 @@
--- Stopping at a report after which a candidate can no longer win changes nothing: a weight added never lowers a sum, and a greatest spill weight never
--- falls, so the rest of the reports would not help it. Assumes nothing.
+-- Stopping at a report after which a candidate can no longer win changes nothing: a weight added never lowers a sum, and a greatest spill weight
+-- never falls, so the rest of the reports would not help it. Assumes nothing.
 use Prim.Native.Nat.{ℕ, ◌≤◌, ◌<◌}
 use native.Mathlib.Omega.{arith}
 use mathlib.Core.Path.{◌≡◌, refl, ap, sym, ◌∙◌, subst}

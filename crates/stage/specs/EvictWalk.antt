@@ -1,5 +1,5 @@
--- Costs in the shape of the code: over the weights held, spill weights and a check's reports. Laws in proofs/EvictLaws.antt tie them to Evict.antt. Assumes
--- nothing.
+-- Costs in the shape of the code: over the weights held, spill weights and a check's reports. Laws in proofs/EvictLaws.antt tie them to Evict.antt.
+-- Assumes nothing.
 use Rattle.std.specs.Prelude.{ℕ, List, [], ◌∷◌, Bool, true, false, ◌&&◌, Option as Maybe, Some, None, cond, ltb, Float, get_or, set, replicate}
 use Rattle.std.specs.Float.{binary32}
 use Rattle.std.specs.Float.Ieee.{add, lt}

@@ -1,4 +1,5 @@
-// The searches of a dequeue (`Context::allocate`): for a clear register (`find_available_reg`), and for one to evict from.
+// The searches of a dequeue (`Context::allocate`): for a clear register (`find_available_reg`), and for one to evict from. An order is walked by its
+// places (`AllocationOrder::candidate`).
 ghost use Rattle.std.specs.Prelude.{◌≡◌, None, false};
 ghost use Rattle.reg_matrix.specs.Lists.{is_nil};
 ghost use Rattle.matrix.specs.Walk.{lent_in};
@@ -147,7 +148,7 @@ pub fn try_evict_for_preferred_reg(
 ) -> Option<Best>
     ensures { result ≡ prefer_in (lent_for search.now) search.now.maps.now (held_in search.now.words.now) search.now.spills.now clear (listed hinted.now) }
 {
-    for c in &hinted.regs[..hinted.count] {
+    for c in hinted.as_slice() {
         let units = at(search.maps, c.reg as usize);
         let limit = Limit::ByWeight(c.preference_weight);
         let Some(t) = limit.try_reports(units, search) else {

@@ -14,8 +14,8 @@ use matrix::check::enter;
 use record_words::held_at;
 use reg_matrix::InterferenceKind;
 
-// What a check's reports say of a candidate that no fixed report rules out: the cost with each holder counted once, the holders' weights added at every
-// report, and who the holders are.
+// What a check's reports say of a candidate that no fixed report rules out: the cost with each holder counted once, the holders' weights added at
+// every report, and who the holders are.
 #[derive(Clone, Copy)]
 pub struct Tried {
     pub cost: EvictCost,
@@ -23,8 +23,8 @@ pub struct Tried {
     pub holders: [bool; 512],
 }
 
-// What a search still wants of a candidate of this weight. By cost: that its holders may be evicted for a number with this flag and spill weight `own`,
-// and cost less than the best so far. By weight: that their weights, added at every report, stay below its own.
+// What a search still wants of a candidate of this weight. By cost: that its holders may be evicted for a number with this flag and spill weight
+// `own`, and cost less than the best so far. By weight: that their weights, added at every report, stay below its own.
 #[derive(Clone, Copy)]
 pub enum Limit {
     ByCost {
@@ -56,10 +56,7 @@ fn nothing_tried() -> Tried
     ensures { result ≡ tried zero_cost zero_weight (replicate 512 false) }
 {
     Tried {
-        cost: EvictCost {
-            preference_weight: 0.0,
-            spill_weight: 0.0,
-        },
+        cost: EvictCost::default(),
         every_report: 0.0,
         holders: [false; 512],
     }
@@ -67,8 +64,8 @@ fn nothing_tried() -> Tried
 
 impl Limit {
     // What the check of the segments on a register's units says of evicting its holders: each holder once for the cost,
-    // and at every report for the sum, in the order of the reports. A fixed report rules the candidate out, and so does one after which it can no longer
-    // win; as weights never fall when they are added, the rest would not help it.
+    // and at every report for the sum, in the order of the reports. A fixed report rules the candidate out, and so does one after which it can no
+    // longer win; as weights never fall when they are added, the rest would not help it.
     pub fn try_reports(self, units: u64, search: &Search<'_>) -> Option<Tried>
         ensures { result ≡ tried_below self (held_in search.now.words.now) search.now.spills.now (reports_on (lent_for search.now) units) }
     {
@@ -76,7 +73,8 @@ impl Limit {
         let segments = search.segments;
         let mut t = nothing_tried();
         let mut c = enter(matrix.table.ends, segments, units, false);
-        // a `for` is no plainer: each report comes with the position after it, and an iterator would keep what is lent
+        // a `for` is no plainer: an `Iterator` over the reports owes laws of its own (`can_next`, `next_gives`, `remaining`), where the
+        // promise of `next` on one report and the position after it is enough
         while let Some((report, next)) = c.next(matrix, segments) {
             let InterferenceKind::VirtReg(v) = report.kind else {
                 return None;

@@ -1,1 +1,2 @@
 pub mod StageLoads
+pub mod FirstWords

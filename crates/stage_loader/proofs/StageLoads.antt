@@ -300,6 +300,15 @@ module _ (bytes : List ℕ) (B : JobSlices) (S : StateBuffers) where
           filled_state j (stage_premises (sizes_of B S) bytes j are_bytes (sym loads_same ∙ q)) h.virt_regs (count_is h j (sym told ∙ p.0)) p.1 queue' last' pq pl,
         )
 
+-- the same of the table that stands in a state afterwards
+pub done_in :
+    {bytes : List ℕ} {B : JobSlices} {S : StateBuffers} {B' : JobSlices} {ends' rests' ends rests queue last : List ℕ} {r : Result JobHeader Refusal}
+    → StageLoadDone bytes B S B' (lent_state ends' rests' queue last) r
+    → ends ≡ ends'
+    → rests ≡ rests'
+    → StageLoadDone bytes B S B' (lent_state ends rests queue last) r
+done_in d e f = rw (e, f) d
+
 -- ---- the start of a trace
 
 -- what is lent behind

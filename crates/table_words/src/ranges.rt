@@ -1,5 +1,5 @@
-// The tests of a question's buffers and ranges (specs/Refusals.antt).
-ghost use Rattle.std.specs.Prelude.{◌≡◌, [], ◌∷◌, length};
+// The tests of a question's buffers and ranges (specs/Refusals.antt). Segments go by number, as `SegmentList` says.
+ghost use Rattle.std.specs.Prelude.{◌≡◌, [], ◌∷◌, false, length};
 ghost use Rattle.reg_matrix.specs.Refusals.{range_refusal, ranges_refusal, short_buffer, bad_slot};
 ghost use Rattle.reg_matrix.specs.Refused.{refusal_in};
 ghost use Rattle.reg_matrix.specs.Questions.{check_limits};
@@ -14,11 +14,7 @@ use reg_matrix::Refusal;
 pub fn short_buffers<S: SegmentList>(regs: &[u64], matrix: RegMatrix<'_>, segments: S) -> bool
     ensures { result ≡ short_buffer (check_limits (length (S.froms segments))) (length regs.now ∷ length matrix.entry.uses.now ∷ length matrix.entry.table.ends.now ∷ length matrix.entry.table.rests.now ∷ length (S.froms segments) ∷ length (S.tos segments) ∷ length (S.values segments) ∷ []) }
 {
-    regs.len() < 64
-        || matrix.uses.len() < 512
-        || matrix.table.ends.len() < 2560
-        || matrix.table.rests.len() < 2560
-        || segments.is_short()
+    regs.len() < 64 || matrix.is_short() || segments.is_short()
 }
 
 fn bad_slot(point: u32) -> bool
@@ -27,9 +23,9 @@ fn bad_slot(point: u32) -> bool
     point % 4 == 3
 }
 
-// 5, 6 or 7 of a range that may not start before `past`.
+// 5, 6 or 7 of a range that may not start before `past`, in this order.
 #[tactic(auto, unfolding(reg_matrix::specs::Refusals::range_refusal, reg_matrix::specs::Refusals::refusal))]
-fn range_refusal(past: u32, from: u32, to: u32) -> Result<(), Refusal>
+pub fn range_refusal(past: u32, from: u32, to: u32) -> Result<(), Refusal>
     ensures { refusal_in result ≡ range_refusal past (record { from = from; to = to; value = 0 }) }
 {
     if to <= from {
@@ -57,21 +53,17 @@ fn ranges_refusal<S: SegmentList>(segments: S) -> Result<(), Refusal>
     Ok(())
 }
 
-// 15, 8, 5, 6 or 7 of a check, in this order: whether a buffer is short, how many maps of units are lent and how many of these count, the
-// register's number, and the segments.
+// 8, 5, 6 or 7 of a check whose buffers are not short, in this order: how many maps of units are lent and how many of these count, the register's
+// number, and the segments.
 #[tactic(auto, unfolding(crate::specs::Segments::start_refusal))]
 pub fn start_refusal<S: SegmentList>(
-    short: bool,
     regs: usize,
     count: usize,
     reg: usize,
     segments: S,
 ) -> Result<(), Refusal>
-    ensures { refusal_in result ≡ start_refusal short regs count reg (S.froms segments) (S.tos segments) }
+    ensures { refusal_in result ≡ start_refusal false regs count reg (S.froms segments) (S.tos segments) }
 {
-    if short {
-        return Err(Refusal::ShortBuffer);
-    }
     if regs <= reg || count <= reg {
         return Err(Refusal::UnknownNumber);
     }

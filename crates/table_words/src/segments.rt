@@ -5,7 +5,8 @@ ghost use Rattle.table_words.specs.Segments.{segment_at, froms_of, tos_of, value
 use lent::at;
 use reg_matrix::ValueSegment;
 
-// Segments: what each starts at, where it ends, and its value. There are as many as starts; what is read past an end is 0.
+// Segments: what each starts at, where it ends, and its value. There are as many as starts; what is read past an end is 0. They are walked by number:
+// a `zip` would end with the shortest list.
 pub trait SegmentList: Copy {
     ghost froms: { Self → List ℕ };
 
@@ -98,10 +99,6 @@ impl<'a> SegmentList for &'a [ValueSegment] {
     }
 
     fn segment(self, n: usize) -> ValueSegment {
-        self.get(n).copied().unwrap_or(ValueSegment {
-            from: 0,
-            to: 0,
-            value: 0,
-        })
+        self.get(n).copied().unwrap_or_default()
     }
 }

@@ -1,4 +1,5 @@
-// An entry as two 64-bit numbers, and a fixed use as one (specs/Layout.antt).
+// An entry as two 64-bit numbers, and a fixed use as one (specs/Layout.antt). Functions and no `From`: a `u64` has no one meaning, and these are the
+// formats of two kinds of words, which C lends in fixed memory.
 ghost use Rattle.std.specs.Prelude.{◌≡◌, ◌^◌, ◌<◌};
 ghost use Rattle.reg_matrix.specs.Layout.{entry_of, reservation_of, use_of};
 

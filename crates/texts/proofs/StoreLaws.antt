@@ -71,6 +71,10 @@ room_place {s} {t} {x} {i} {j} p h = go p.place
 pub named : {s t x y : List ℕ} {i j : ℕ} → x ≡ y → Stored s i x t j → Stored s i y t j
 named {s} {t} {x} {y} {i} {j} e p = subst (λ (z : List ℕ). Stored s i z t j) e p
 
+-- a line by another name
+pub line_named : {s t u x : List ℕ} {i j : ℕ} → u ≡ t → Stored s i x t j → Stored s i x u j
+line_named {s} {t} {u} {x} {i} {j} e p = subst (λ (z : List ℕ). Stored s i x z j) (sym e) p
+
 -- ---- a text byte by byte
 
 pub text_more :

@@ -6,28 +6,25 @@ ghost use Rattle.table_words.specs.Segments.{froms_of, tos_of, values_of};
 ghost use Rattle.thin.specs.Answers.{max_segments, lent_to, check_answer};
 
 use crate::is_long;
-use matrix::{Cursor, check};
+use matrix::Cursor;
+use matrix::check::{self, InterferenceQuery};
 use reg_matrix::{Interference, Refusal, ValueSegment};
 use table_words::buffers::RegMatrix;
 
-// Starts a check of the register numbered `reg` among the first `count` maps of units, in the full or the short form, against these
-// segments. It tests 15, 8, 5, 6, 7 in this order, and gives the refusal or the position at the start. More than 512 segments
-// are refused with 15.
+// Starts a check of a register against these segments. It tests 15, 8, 5, 6, 7 in this order, and gives the refusal or the position at the
+// start. More than MAX segments are refused with 15: a job has at most 512.
 #[tactic(auto, unfolding(crate::specs::Answers::check_answer))]
-pub fn check_interference(
+pub fn check_interference<const MAX: usize>(
     segments: &[ValueSegment],
-    regs: &[u64],
-    count: usize,
-    reg: usize,
-    full: bool,
+    query: InterferenceQuery<'_>,
     matrix: RegMatrix<'_>,
 ) -> Result<Cursor, Refusal>
-    ensures { numbered result ≡ check_answer (ltb max_segments (length segments.now)) regs.now count reg full matrix.entry.table.ends.now matrix.entry.table.rests.now matrix.entry.uses.now (froms_of segments.now) (tos_of segments.now) (values_of segments.now) }
+    ensures { numbered result ≡ check_answer (ltb MAX (length segments.now)) query.entry.regs.now query.entry.count query.entry.reg query.entry.full matrix.entry.table.ends.now matrix.entry.table.rests.now matrix.entry.uses.now (froms_of segments.now) (tos_of segments.now) (values_of segments.now) }
 {
-    if is_long(segments) {
+    if is_long::<MAX>(segments) {
         return Err(Refusal::ShortBuffer);
     }
-    check::check_interference(regs, count, reg, full, matrix, segments)
+    check::check_interference(query, matrix, segments)
 }
 
 // The position at the lowest unit of a map: its first entry that ends past the first segment's start. It asks nothing of what is lent: without
@@ -42,7 +39,7 @@ pub fn enter(segments: &[ValueSegment], ends: &[u64], units: u64, full: bool) ->
 fn seen(segments: &[ValueSegment]) -> &[ValueSegment]
     ensures { result.now ≡ take max_segments segments.now }
 {
-    if is_long(segments) {
+    if is_long::<512>(segments) {
         &segments[..512]
     } else {
         segments

@@ -1,17 +1,16 @@
-// Calls over a lent slice of segment structs, of which each takes at most 512; the crate segment_lists has the check for shorter lists.
+// Calls over a lent slice of segment structs: placing and evicting take at most 512, a check as many as its caller says, as segment_lists does.
 #![tactic(auto)]
 
 ghost use Rattle.std.specs.Prelude.{◌≡◌, ltb, length};
-ghost use Rattle.thin.specs.Answers.{max_segments};
 
 use reg_matrix::ValueSegment;
 
 pub mod assign;
 pub mod check;
 
-// Whether there are more segments than a job may have.
-fn is_long(segments: &[ValueSegment]) -> bool
-    ensures { result ≡ ltb max_segments (length segments.now) }
+// Whether there are more than MAX segments.
+fn is_long<const MAX: usize>(segments: &[ValueSegment]) -> bool
+    ensures { result ≡ ltb MAX (length segments.now) }
 {
-    512 < segments.len()
+    MAX < segments.len()
 }

@@ -1,14 +1,15 @@
 // Reading a job: what stands before a virtual register's hints, one hint and one range, from bytes, as the parsers of the crate job say.
 #![tactic(auto)]
 
-ghost use Rattle.std.specs.Prelude.{◌≡◌, IfOk, false, not, ◌&&◌, ◌/◌, ◌%◌, eqb};
+ghost use Rattle.std.specs.Prelude.{◌≡◌, IfOk, false, not, ◌&&◌, eqb};
 ghost use Rattle.job.specs.Load.{hint as hint_of, range as range_of, spill_bits, known as known_of, virt_reg_fields};
 ghost use Rattle.job.specs.Parser.{if_bit, little as little_of};
 ghost use Rattle.reader.specs.Read.{left, read_view, Num};
 
 use job::{Hint, VirtRegFields};
-use reader::read::Reader;
+use reader::read::{Reader, bit};
 use reg_matrix::{Refusal, ValueSegment};
+use table_words::ranges::range_refusal;
 
 // The next range, of which none may start before `past`, with its value where it has one: a segment has one, and a probe range 0.
 #[tactic(auto, unfolding(job::specs::Load::range))]
@@ -20,18 +21,7 @@ pub fn range(reader: &mut Reader<'_>, past: u32, valued: bool) -> Result<ValueSe
     let a = reader.little::<4>()?;
     let b = reader.little::<4>()?;
     let x = reader.little_if::<2>(valued)?;
-    if b <= a {
-        return Err(Refusal::Empty);
-    }
-    if a % 4 == 3 {
-        return Err(Refusal::BadPoint);
-    }
-    if b % 4 == 3 {
-        return Err(Refusal::BadPoint);
-    }
-    if a < past as u64 {
-        return Err(Refusal::Unsorted);
-    }
+    range_refusal(past, a as u32, b as u32)?;
     Ok(ValueSegment {
         from: a as u32,
         to: b as u32,
@@ -60,37 +50,37 @@ pub fn hint(reader: &mut Reader<'_>, regs: u64) -> Result<Hint, Refusal>
     Ok(hint)
 }
 
-// The class where bit 0 of `m` stands, and 0 elsewhere.
-fn class_field(reader: &mut Reader<'_>, m: u64, classes: u64) -> Result<u64, Refusal>
+// The class where its bit stands, and 0 elsewhere.
+fn class_field(reader: &mut Reader<'_>, stands: bool, classes: u64) -> Result<u64, Refusal>
     ensures same { reader.new.bytes ≡ reader.old.bytes }
-    ensures read { Num (left reader.old) (left reader.new) (if_bit (eqb (m / 1 % 2) 1) 0 (known_of 1 classes)) classes result }
+    ensures read { Num (left reader.old) (left reader.new) (if_bit stands 0 (known_of 1 classes)) classes result }
 {
-    if m / 1 % 2 == 1 {
+    if stands {
         reader.known::<1>(classes)
     } else {
         Ok(0)
     }
 }
 
-// The set where bit 1 of `m` stands, and the number of its own elsewhere.
-fn set_field(reader: &mut Reader<'_>, m: u64, own: u16) -> Result<u64, Refusal>
+// The set where its bit stands, and the number of its own elsewhere.
+fn set_field(reader: &mut Reader<'_>, stands: bool, own: u16) -> Result<u64, Refusal>
     ensures same { reader.new.bytes ≡ reader.old.bytes }
-    ensures read { Num (left reader.old) (left reader.new) (if_bit (eqb (m / 2 % 2) 1) own (known_of 2 512)) 65535 result }
+    ensures read { Num (left reader.old) (left reader.new) (if_bit stands own (known_of 2 512)) 65535 result }
 {
-    if m / 2 % 2 == 1 {
+    if stands {
         reader.known::<2>(512)
     } else {
         Ok(own as u64)
     }
 }
 
-// The bits of a spill weight where bit 2 of `m` stands, and 0 elsewhere. Past infinity's bits are NaN's, then those with a sign.
+// The bits of a spill weight where its bit stands, and 0 elsewhere. Past infinity's bits are NaN's, then those with a sign.
 #[tactic(auto, unfolding(job::specs::Load::spill_bits))]
-fn spill_field(reader: &mut Reader<'_>, m: u64) -> Result<u64, Refusal>
+fn spill_field(reader: &mut Reader<'_>, stands: bool) -> Result<u64, Refusal>
     ensures same { reader.new.bytes ≡ reader.old.bytes }
-    ensures read { Num (left reader.old) (left reader.new) (if_bit (eqb (m / 4 % 2) 1) 0 spill_bits) 2139095040 result }
+    ensures read { Num (left reader.old) (left reader.new) (if_bit stands 0 spill_bits) 2139095040 result }
 {
-    if m / 4 % 2 != 1 {
+    if !stands {
         return Ok(0);
     }
     let v = reader.little::<4>()?;
@@ -101,10 +91,10 @@ fn spill_field(reader: &mut Reader<'_>, m: u64) -> Result<u64, Refusal>
 }
 
 // The class is absent, and there is none.
-fn no_class(m: u64, classes: u64) -> bool
-    ensures { result ≡ (not (eqb (m / 1 % 2) 1) && eqb classes 0) }
+fn no_class(stands: bool, classes: u8) -> bool
+    ensures { result ≡ (not stands && eqb classes 0) }
 {
-    m / 1 % 2 != 1 && classes == 0
+    !stands && classes == 0
 }
 
 // What stands before the hints of the virtual register `n`.
@@ -117,16 +107,17 @@ pub fn virt_fields(reader: &mut Reader<'_>, classes: u8, n: u16) -> Result<VirtR
     if 64 <= m {
         return Err(Refusal::UnfitMap);
     }
-    if m / 32 % 2 != 1 {
+    if !bit(m, 5) {
         return Err(Refusal::Empty);
     }
-    if no_class(m, classes as u64) {
+    let has_class = bit(m, 0);
+    if no_class(has_class, classes) {
         return Err(Refusal::UnknownNumber);
     }
-    let c = class_field(reader, m, classes as u64)?;
-    let t = set_field(reader, m, n)?;
-    let w = spill_field(reader, m)?;
-    let z = reader.little_if::<4>(m / 8 % 2 == 1)?;
+    let c = class_field(reader, has_class, classes as u64)?;
+    let t = set_field(reader, bit(m, 1), n)?;
+    let w = spill_field(reader, bit(m, 2))?;
+    let z = reader.little_if::<4>(bit(m, 3))?;
     let fields = VirtRegFields {
         map: m as u8,
         class: c as u8,

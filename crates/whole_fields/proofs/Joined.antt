@@ -21,6 +21,7 @@ use Rattle.job.specs.Load.{register, class, reservation, virt_reg_after, job_fie
 use Rattle.job.specs.Layout.{starts_from, JobSlices, probe_of, header_of}
 use Rattle.reader.specs.Read.{Stored, ClassesAt, all_members, table_of, segments_of_all}
 use Rattle.fields.specs.Virt.{VirtsIn, TableOut}
+use Rattle.fields.specs.declared.totals.Totals.{Totals}
 use Rattle.whole_fields.specs.Probe.{probe_field, range_of}
 use Rattle.whole_fields.specs.Whole.{rest_of, last_of, FirstSizes, FirstOut, LastOut, JobAt, JobOut}
 use Rattle.whole_fields.specs.declared.FirstTables.{FirstTables}
@@ -110,12 +111,12 @@ pub all_read :
     → FirstOut l p (Ok t) (λ rs. Stored (λ x. x) B.j64 0 rs B₁.j64) (ClassesAt B.j16 B.j8 B₁.j16 B₁.j8) es
     → (B₁.j32 ≡ B.j32) × (B₁.jf ≡ B.jf)
     → B'.j64 ≡ B₁.j64
-    → (s : List ℕ) (at : ℕ) {v n g : ℕ} (r : Result (JobHeader × TableSizes) Refusal)
-    → TableOut l₁ (table_of (bit 3 t.map) 2 512 (virt_reg_after t.regs t.classes) l) (Ok (v, n, g)) (VirtsIn B₁ B')
-    → LastOut l₁ (drop at s) t v g r
+    → (s : List ℕ) (at : ℕ) {v : ℕ} (totals : Totals) (r : Result (JobHeader × TableSizes) Refusal)
+    → TableOut l₁ (table_of (bit 3 t.map) 2 512 (virt_reg_after t.regs t.classes) l) (Ok (v, totals)) (VirtsIn B₁ B')
+    → LastOut l₁ (drop at s) t v totals.segments r
     → JobOut s p (placed at r) (JobAt B B' es)
-all_read l l₁ B B₁ B' w k m s at r x o =
+all_read l l₁ B B₁ B' w k m s at totals r x o =
     let eh = w.6.starts.is ∙ ap (λ (l : List ℕ). sets B.j16 0 l) (map-id (starts_from length 0 w.1)) in
     let eb = w.6.members.is ∙ ap (λ (l : List ℕ). sets B.j8 0 l) (map-id (all_members w.1)) in
-    job_out w.4 l x.1 s at r w.3 x.2 x.4
-    (λ q b. record { regs = m ∙ w.5.is ∙ ap (λ (l : List ℕ). sets B.j64 0 l) (map-id w.0); virt_regs = rw (k.0, eh, eb, k.1) at x.7; reserved = w.7 }) o
+    job_out w.4 l x.1 s at r w.3 x.2 x.3.1
+    (λ q b. record { regs = m ∙ w.5.is ∙ ap (λ (l : List ℕ). sets B.j64 0 l) (map-id w.0); virt_regs = rw (k.0, eh, eb, k.1) at x.4; reserved = w.7 }) o

@@ -14,7 +14,7 @@ use fields::virt::virt_table;
 use fixed_reader::{LentFixed, fixed_table};
 use job::JobHeader;
 use job_parts::lent_job::LentJobMut;
-use reader::read::Reader;
+use reader::read::{Reader, bit};
 use reg_matrix::Refusal;
 use reg_reader::{class_table, reg_table};
 use virt_reader::range;
@@ -62,9 +62,12 @@ fn first_tables(
     if 64 <= m {
         return Err(Refusal::UnfitMap);
     }
-    let rn = reg_table(reader, m / 1 % 2 == 1, job.j64)?;
-    let (cn, _) = class_table(reader, m / 2 % 2 == 1, rn as u8, job.j16, job.j8)?;
-    let en = fixed_table(reader, m / 4 % 2 == 1, fixed)?;
+    let has_regs = bit(m, 0);
+    let has_classes = bit(m, 1);
+    let has_fixed = bit(m, 2);
+    let rn = reg_table(reader, has_regs, job.j64)?;
+    let (cn, _) = class_table(reader, has_classes, rn as u8, job.j16, job.j8)?;
+    let en = fixed_table(reader, has_fixed, fixed)?;
     let tables = FirstTables {
         map: m as u8,
         regs: rn as u8,
@@ -97,8 +100,8 @@ fn last_fields(
     ensures same { reader.new.bytes ≡ reader.old.bytes }
     ensures read { LastOut (left reader.old) (left reader.new) t vn gn result }
 {
-    let p = probe_range(reader, t.map / 16 % 2 == 1)?;
-    let b = budget(reader, t.map / 32 % 2 == 1)?;
+    let p = probe_range(reader, bit(t.map as u64, 4))?;
+    let b = budget(reader, bit(t.map as u64, 5))?;
     let header = JobHeader {
         regs: t.regs,
         classes: t.classes,
@@ -125,8 +128,8 @@ pub fn job_fields(
 {
     let mut reader = Reader { bytes: s, at: 0 };
     let t = first_tables(&mut reader, job, fixed)?;
-    let stands = t.map / 8 % 2 == 1;
-    let (vn, _, gn) = virt_table(&mut reader, stands, t.regs, t.classes, job)?;
-    let (header, sizes) = last_fields(&mut reader, t, vn, gn)?;
+    let stands = bit(t.map as u64, 3);
+    let (vn, totals) = virt_table(&mut reader, stands, t.regs, t.classes, job)?;
+    let (header, sizes) = last_fields(&mut reader, t, vn, totals.segments)?;
     Ok((header, sizes, reader.at))
 }

@@ -6,6 +6,13 @@ ghost use Rattle.words.specs.Words.{header_words, header_in, probe_in, probe_wor
 use job::JobHeader;
 use lent::{at, put};
 
+// A job's header and its records to read, each in lent words. Calls that change the records take the two apart.
+#[derive(Clone, Copy)]
+pub struct LentWords<'a> {
+    pub header: &'a [u64],
+    pub records: &'a [u64],
+}
+
 // The probe range of three words, as C has them: whether there is one, and its points.
 #[tactic(auto, unfolding(crate::specs::Words::probe_in))]
 fn probe_of(has: u64, from: u64, to: u64) -> Option<(u32, u32)>
@@ -66,8 +73,8 @@ pub fn store_header(header: JobHeader, words: &mut [u64])
 }
 
 // Whether the words of a header or those of the records are too few.
-pub fn short_words(header: &[u64], records: &[u64]) -> bool
-    ensures { result ≡ words_short header.now records.now }
+pub fn short_words(words: LentWords<'_>) -> bool
+    ensures { result ≡ words_short words.entry.header.now words.entry.records.now }
 {
-    header.len() < 8 || records.len() < 512
+    words.header.len() < 8 || words.records.len() < 512
 }

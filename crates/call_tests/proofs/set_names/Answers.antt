@@ -1,12 +1,14 @@
-use mathlib.Core.Path.{sym, ◌∙◌}
-use Rattle.reg_matrix.proofs.Places.{any_more, any_end}
+use native.Mathlib.Omega.{arith}
+use mathlib.Core.Path.{refl, ◌∙◌}
+use Rattle.std.proofs.Common.{rules, tests}
+use Rattle.std.proofs.lemmas.Iterator.{YieldsList-from_range}
+use Rattle.std.proofs.lemmas.Iterator.Search.{any_from_yields_List}
+use Rattle.reg_matrix.proofs.Places.{any_range}
+use Rattle.call_tests.specs.Testing.{hinted_at}
 use Rattle.call_tests.proofs.set_names.Goals as goal
 
-pub returns-then-hint_names : goal.returns-then-hint_names
-returns-then-hint_names c = sym (c.loop-k.invariant ∙ any_more _ c.args.n c.loop-k.k c.loop-k-test.true ∙ rw (← c.hint_names.ensures, c.if-hint_names.true))
-
-pub loop-k-preserved : goal.loop-k-preserved
-loop-k-preserved c = c.loop-k.invariant ∙ any_more _ c.args.n c.loop-k.k c.loop-k-test.true ∙ rw (← c.hint_names.ensures, c.if-hint_names.false)
-
 pub returns : goal.returns
-returns c = sym (c.loop-k.invariant ∙ any_end _ c.args.n c.loop-k.k c.loop-k-test.false)
+returns c =
+    let a = c.args in
+    let names = hinted_at a.sets.now a.starts.now a.hints.now a.set a.reg in
+    any_from_yields_List names _ _ c.any.result c.any.ensures.ran (YieldsList-from_range 0 a.n a.n refl (omega arith)) (λ x b q k. search (rules, tests)) ∙ any_range names 0 a.n

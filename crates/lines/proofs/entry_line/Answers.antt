@@ -1,3 +1,4 @@
+use Rattle.std.proofs.Common.{rules}
 use Rattle.reg_matrix.specs.Lists.{ascii}
 use Rattle.reg_matrix.specs.Lines.{entry_line}
 use Rattle.texts.proofs.StoreLaws as laws
@@ -5,4 +6,6 @@ use Rattle.lines.proofs.entry_line.Goals as goal
 
 pub returns : goal.returns
 unfolding ascii entry_line
-returns c = laws.then (laws.then (laws.then (laws.then (laws.then c.text-a.ensures c.number-b.ensures) c.spaced-c.ensures) c.spaced-d.ensures) c.reservation-e.ensures) c.byte.ensures
+returns c =
+    laws.line_named (search rules)
+    (laws.then (laws.then (laws.then (laws.then (laws.then c.text.ensures.stored c.number.ensures.stored) c.spaced.ensures.stored) c.spaced-2.ensures.stored) c.reservation.ensures.stored) c.byte.ensures.stored)

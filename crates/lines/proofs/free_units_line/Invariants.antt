@@ -1,10 +1,10 @@
+-- The invariant: the units from this one on, stored from here on, are the whole line of units; the line is the same slice.
 use Prim.Native.Nat.{ℕ}
 use mathlib.Core.Path.{◌≡◌}
 use mathlib.Core.List.{List}
-use lib.ListN.{length}
 use Rattle.texts.specs.Texts.{Stored}
-use Rattle.lines.specs.LineTexts.{lent, is_spare, units_text}
+use Rattle.lines.specs.LineTexts.{sheet_of, is_spare, units_text}
 use Rattle.lines.proofs.free_units_line.Given as goal
 
 abbrev pub invariant-loop-unit : goal.invariant-loop-unit
-invariant-loop-unit l = (length l.line ≡ length l.initial.line) × ((t : List ℕ) (k : ℕ) → Stored l.line l.at (units_text (is_spare (lent l.maps l.table.ends.now l.table.rests.now) l.regs l.from l.to) l.unit) t k → Stored l.initial.line l.initial.at (units_text (is_spare (lent l.maps l.table.ends.now l.table.rests.now) l.regs l.from l.to) 0) t k)
+invariant-loop-unit l = (l.out.bytes.ghost_name ≡ l.initial.out.bytes.ghost_name) × ((t : List ℕ) (k : ℕ) → Stored l.out.bytes.now l.out.at (units_text (is_spare (sheet_of l.sheet) l.regs l.from l.to) l.unit) t k → Stored l.initial.out.bytes.now l.initial.out.at (units_text (is_spare (sheet_of l.sheet) l.regs l.from l.to) 0) t k)

@@ -3,10 +3,10 @@ use Rattle.reg_matrix.specs.Lines.{reservation_text}
 use Rattle.texts.proofs.StoreLaws as laws
 use Rattle.lines.proofs.reservation.Goals as goal
 
-pub returns-in-Held : goal.returns-in-Held
+pub returns-in-Held-clause-stored : goal.returns-in-Held-clause-stored
 unfolding ascii reservation_text
-returns-in-Held c = rw c.in-Held.is (laws.then (laws.then c.text-a.ensures c.number-b.ensures) c.index.ensures)
+returns-in-Held-clause-stored c = rw c.in-Held.is (laws.then (laws.then c.text.ensures.stored c.number.ensures.stored) c.index.ensures.stored)
 
-pub returns-in-FixedUse : goal.returns-in-FixedUse
+pub returns-in-FixedUse-clause-stored : goal.returns-in-FixedUse-clause-stored
 unfolding ascii reservation_text
-returns-in-FixedUse c = rw c.in-FixedUse.is (laws.then c.text-a-in-FixedUse.ensures c.number.ensures)
+returns-in-FixedUse-clause-stored c = rw c.in-FixedUse.is (laws.then c.text-in-FixedUse.ensures.stored c.number-in-FixedUse.ensures.stored)

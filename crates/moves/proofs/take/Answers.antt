@@ -7,4 +7,5 @@ use Rattle.moves.proofs.take.Goals as goal
 
 pub returns-clause-after : goal.returns-clause-after
 returns-clause-after c =
-    taken _ _ (lists_in (slices_of c.args.job)) _ _ _ _ _ _ _ _ _ _ _ _ _ c.segments_of-own.ensures.froms c.segments_of-own.ensures.tos c.at-units.ensures c.from.ensures c.assign.ensures.after (search rules) (search rules) c.remove.ensures (c.at-set.ensures ∙ rw c.from-2.ensures) c.last_word.ensures c.put.ensures
+    let range = c.range_of-range.ensures in
+    taken _ _ (lists_in (slices_of c.args.job)) _ _ _ _ _ _ _ _ _ _ _ _ _ range.froms range.tos range.units c.from.ensures (rw range.v at c.assign.ensures.after) (search rules) (search rules) c.remove.ensures (c.at-set.ensures ∙ rw c.from-2.ensures) c.last_word.ensures c.put.ensures

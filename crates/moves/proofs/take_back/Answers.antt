@@ -6,4 +6,5 @@ use Rattle.moves.proofs.take_back.Goals as goal
 
 pub returns-clause-after : goal.returns-clause-after
 returns-clause-after c =
-    taken_back _ _ (lists_in (slices_of c.args.job)) _ _ _ _ _ _ _ _ c.segments_of-own.ensures.tos c.at-units.ensures c.from.ensures c.evict.ensures.after (search rules) (search rules) c.queue_at.ensures
+    let range = c.range_of-range.ensures in
+    taken_back _ _ (lists_in (slices_of c.args.job)) _ _ _ _ _ _ _ _ range.tos range.units c.from.ensures (rw range.v at c.evict.ensures.after) (search rules) (search rules) c.queue_at.ensures

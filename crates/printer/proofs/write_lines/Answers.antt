@@ -20,13 +20,13 @@ returns-in-Ok-None c =
 pub returns-in-Err : goal.returns-in-Err
 returns-in-Err c = lines_short _ _ _ _ _ c.loop-n.invariant
 
-pub returns-then-not-front : goal.returns-then-not-front
-returns-then-not-front c = lines_short _ _ _ _ _ c.loop-n.invariant
+pub returns-in_default : goal.returns-in_default
+returns-in_default c = lines_short _ _ _ _ _ c.loop-n.invariant
 
 pub overflow_add-bytes : goal.overflow_add-bytes
 overflow_add-bytes c =
     let sized : length c.loop-n.line ≡ 256 = search rules in
-    record { fits = omega (arith, line_room _ _ _ _ _ c.loop-n.invariant _ _ (omega (arith, sized)) c.next.auto.line _ c.next.ensures _ _ (ap numbered (c.in-Ok-Some.is ∙ ap Ok c.in-Ok-Some.field-0-is)) _ c.write_front-front.ensures) }
+    record { fits = omega (arith, line_room _ _ _ _ _ c.loop-n.invariant _ _ (omega (arith, sized)) c.next.auto.line _ c.next.ensures _ _ (ap numbered (c.in-Ok-Some.is ∙ ap Ok c.in-Ok-Some.field-0-is)) _ c.in-Some.ensures) }
 
 pub loop-n-smaller : goal.loop-n-smaller
 loop-n-smaller c =
@@ -36,4 +36,4 @@ loop-n-smaller c =
 pub loop-n-preserved : goal.loop-n-preserved
 loop-n-preserved c =
     let sized : length c.loop-n.line ≡ 256 = search rules in
-    line_written _ _ _ _ _ c.loop-n.invariant _ _ (omega (arith, sized)) c.next.auto.line _ c.next.ensures _ _ (ap numbered (c.in-Ok-Some.is ∙ ap Ok c.in-Ok-Some.field-0-is)) _ c.write_front-front.ensures c.if-not-front.false
+    line_written _ _ _ _ _ c.loop-n.invariant _ _ (omega (arith, sized)) c.next.auto.line _ c.next.ensures _ _ (ap numbered (c.in-Ok-Some.is ∙ ap Ok c.in-Ok-Some.field-0-is)) _ c.in-Some.ensures

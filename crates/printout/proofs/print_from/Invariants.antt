@@ -1,13 +1,13 @@
 -- The lines from here on, stored from here on, are the whole. The measure is how many lines are left. Assumes nothing.
 use lib.ListN.{length}
-use Rattle.lines.specs.LineTexts.{lent}
+use Rattle.lines.specs.LineTexts.{sheet_of}
 use Rattle.listing.specs.Walk.{lines_from}
 use Rattle.record_words.specs.Words.{records_in}
 use Rattle.printout.proofs.WholeLaws.{PrintedTo}
 use Rattle.printout.proofs.print_from.Given as goal
 
 abbrev pub invariant-loop-n : goal.invariant-loop-n
-invariant-loop-n l = PrintedTo (lent l.maps l.table.ends.now l.table.rests.now) l.words l.initial.c l.initial.out l.c l.out l.at
+invariant-loop-n l = PrintedTo (sheet_of l.sheet) l.words l.initial.c l.initial.out l.c l.out l.at
 
 abbrev pub decreases-loop-n : goal.decreases-loop-n
-decreases-loop-n l = length (lines_from l.c (records_in l.words) (lent l.maps l.table.ends.now l.table.rests.now))
+decreases-loop-n l = length (lines_from l.c (records_in l.words) (sheet_of l.sheet))

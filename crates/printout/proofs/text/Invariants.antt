@@ -1,3 +1,4 @@
+-- The invariant: storing the bytes from place i on completes the whole text, and the output keeps its length.
 use Rattle.std.proofs.Common.{◌≡◌, ◌+◌, length, drop}
 use Rattle.std.proofs.lemmas.List.Edits.{sets}
 use Rattle.printout.proofs.text.Given as goal

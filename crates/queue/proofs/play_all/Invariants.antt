@@ -1,3 +1,4 @@
+-- The invariant: playing the matches that are left gives the whole.
 use Prim.Native.Nat.{◌-◌}
 use mathlib.Core.Path.{◌≡◌}
 use Rattle.queue.specs.QueueWalk.{play_from}

@@ -1,3 +1,4 @@
+-- The invariant: playing the matches that are left above this word gives all nine.
 use Prim.Native.Nat.{◌<◌, ◌-◌}
 use mathlib.Core.Path.{◌≡◌}
 use Rattle.queue.specs.QueueWalk.{climb}

@@ -1,3 +1,4 @@
+-- The invariant: the words in front of this one are stored anew, and the others are as they were.
 use mathlib.Core.List.{◌++◌}
 use lib.ListN.{drop}
 use Rattle.record_words.proofs.WordLaws.{Renewing}

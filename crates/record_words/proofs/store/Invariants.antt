@@ -1,3 +1,4 @@
+-- The invariant: the words of the records in front of this one are stored.
 use Rattle.record_words.proofs.WordLaws.{Storing}
 use Rattle.record_words.proofs.store.Given as goal
 

@@ -1,12 +1,15 @@
-use Rattle.record_words.proofs.WordLaws.{is_number, differs_plain, weight_back}
+use mathlib.Core.Path.{sym, subst}
+use mathlib.Core.Bool.{Bool, not}
+use lib.Dec.{T}
+use Rattle.record_words.proofs.WordLaws.{bits_of_nan, bits_of_number, weight_back}
 use mathlib.Core.Path.{refl}
 use Rattle.record_words.proofs.weight_bits.Goals as goal
 
 pub float_to_bits-result : goal.float_to_bits-result
-float_to_bits-result c = is_number _ c.if-w.false
+float_to_bits-result c = subst (λ (b : Bool). T (not b)) c.if-is_nan.ensures.value tt
 
-pub returns-then-w : goal.returns-then-w
-returns-then-w c = (rw c.if-w.true, λ p. absurd (differs_plain _ c.if-w.true p))
+pub returns-then-is_nan : goal.returns-then-is_nan
+returns-then-is_nan c = bits_of_nan _ (sym c.if-is_nan.ensures.value)
 
-pub returns-else-w : goal.returns-else-w
-returns-else-w c = (rw c.if-w.false, weight_back _ c.well_formed.0.1 _ refl)
+pub returns-else-is_nan : goal.returns-else-is_nan
+returns-else-is_nan c = (bits_of_number _ (sym c.if-is_nan.ensures.value), weight_back _ c.well_formed.0.1 _ refl)

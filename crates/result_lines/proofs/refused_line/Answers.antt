@@ -1,7 +1,9 @@
+use Rattle.std.proofs.Common.{rules}
 use Rattle.reg_matrix.specs.Lists.{ascii}
 use Rattle.texts.proofs.StoreLaws as laws
 use Rattle.result_lines.proofs.refused_line.Goals as goal
 
 pub returns : goal.returns
 unfolding ascii
-returns c = laws.then (laws.then c.text-a.ensures c.number-b.ensures) c.byte.ensures
+returns c =
+    laws.line_named (search rules) (laws.then (laws.then c.text.ensures.stored c.number.ensures.stored) c.byte.ensures.stored)

@@ -14,16 +14,16 @@ returns-in_default-clause-after c = run_done _ _ _ _ _ _ _ c.loop-dequeues.invar
 
 pub returns-then-dequeue-clause-after : goal.returns-then-dequeue-clause-after
 returns-then-dequeue-clause-after c =
-    run_toomany _ _ _ _ _ _ _ c.loop-dequeues.invariant.1 _ _ (sym c.first.ensures ∙ c.in-Some.is) (λ z. omega (arith, z)) _ _ _ c.dequeue.ensures.after c.if-dequeue.true _ (ended _ _ _ (omega arith))
+    run_toomany _ _ _ _ _ _ _ c.loop-dequeues.invariant.1 _ (sym c.first.ensures ∙ c.in-Some.is) (λ z. omega (arith, z)) _ _ _ c.dequeue.ensures.after c.if-dequeue.true _ (ended _ _ _ (omega arith))
 
 pub loop-dequeues-preserved : goal.loop-dequeues-preserved
 loop-dequeues-preserved c =
     let e : c.args.budget - (c.loop-dequeues.dequeues + 1) ≡ c.args.budget - c.loop-dequeues.dequeues - 1 = omega arith in
-    rw e (search, run_more _ _ _ _ _ _ _ c.loop-dequeues.invariant.1 _ _ (sym c.first.ensures ∙ c.in-Some.is) (λ z. omega (arith, z)) _ _ _ c.dequeue.ensures.after c.if-dequeue.false)
+    rw e (search, run_more _ _ _ _ _ _ _ c.loop-dequeues.invariant.1 _ (sym c.first.ensures ∙ c.in-Some.is) (λ z. omega (arith, z)) _ _ _ c.dequeue.ensures.after c.if-dequeue.false)
 
 pub returns-in-Some-first-clause-after : goal.returns-in-Some-first-clause-after
 returns-in-Some-first-clause-after c =
-    run_spent _ _ _ _ _ _ _ c.loop-dequeues.invariant.1 c.in-Some-first.field-0.0 c.in-Some-first.field-0.1 (sym c.first-2.ensures ∙ c.in-Some-first.is) (omega arith) _ (ended _ _ _ (omega arith))
+    run_spent _ _ _ _ _ _ _ c.loop-dequeues.invariant.1 _ (sym c.first-2.ensures ∙ c.in-Some-first.is) (omega arith) _ (ended _ _ _ (omega arith))
 
 pub returns-in-None-clause-after : goal.returns-in-None-clause-after
 returns-in-None-clause-after c = run_done _ _ _ _ _ _ _ c.loop-dequeues.invariant.1 (sym c.first-2.ensures ∙ c.in-None.is) _ (ended _ _ _ (omega arith))

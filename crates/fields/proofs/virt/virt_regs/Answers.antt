@@ -7,15 +7,15 @@ use Rattle.fields.proofs.Turns.{virts_begun, virts_more}
 use Rattle.fields.proofs.virt.virt_regs.Goals as goal
 
 pub loop-i-init : goal.loop-i-init
-loop-i-init c = (virts_begun _ _ _ _ _ _ _ _, record { j64 = refl; j32 = refl; j16 = refl; j8 = refl; jf = refl }, refl, refl)
+loop-i-init c = (virts_begun _ _ _ _ _ _ _ _ c.none-totals.result c.none-totals.ensures, record { j64 = refl; j32 = refl; j16 = refl; j8 = refl; jf = refl }, refl, refl)
 
 pub returns-in_err-f-clause-read : goal.returns-in_err-f-clause-read
 unfolding virt_reg_after
 returns-in_err-f-clause-read c =
     let p = err_from_is_err_and c.from_residual.result c.from_residual.ensures.1 in
     let v = c.loop-i.invariant.0 in
-    let eh = hints_in_length v.0 ∙ v.2 in
-    let eg = segments_in_length v.0 ∙ v.3 in
+    let eh = hints_in_length v.0 ∙ v.2.0 in
+    let eg = segments_in_length v.0 ∙ v.2.1 in
     rw (p.1, p.2) (stops v.1 c.loop-i-test.true (rw (v.1.read, eh, eg) c.in_err-f.ensures.read))
 
 pub loop-i-preserved : goal.loop-i-preserved
@@ -23,7 +23,7 @@ loop-i-preserved c =
     let v = c.loop-i.invariant in
     let a = c.in_ok-f.ensures in
     let b = c.put_fields.ensures in (
-      virts_more _ _ _ _ _ _ _ _ _ _ _ _ v.0 c.loop-i-test.true c.requires a.read b.stored c.put.ensures c.put-in-loop-i.ensures,
+      virts_more _ _ _ _ _ _ _ _ _ _ v.0 c.loop-i-test.true c.requires a.read b.stored c.put.ensures c.put-in-loop-i.ensures,
       record { j64 = b.same.j64 ∙ a.same.0.j64 ∙ v.1.j64; j32 = b.same.j32 ∙ a.same.0.j32 ∙ v.1.j32; j16 = b.same.j16 ∙ a.same.0.j16 ∙ v.1.j16; j8 = b.same.j8 ∙ a.same.0.j8 ∙ v.1.j8; jf = b.same.jf ∙ a.same.0.jf ∙ v.1.jf },
       b.maps ∙ a.maps ∙ v.2,
       a.same.1 ∙ v.3,
@@ -32,4 +32,4 @@ loop-i-preserved c =
 pub returns-clause-read : goal.returns-clause-read
 returns-clause-read c =
     let v = c.loop-i.invariant.0 in
-    (v.0, ends v.1 c.loop-i-test.false, v.2, v.3, v.4, v.5, v.6)
+    (v.0, ends v.1 c.loop-i-test.false, v.2, v.3)

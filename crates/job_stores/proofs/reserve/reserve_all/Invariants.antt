@@ -9,6 +9,6 @@ use Rattle.job_stores.proofs.reserve.reserve_all.Given as goal
 
 abbrev pub invariant-loop-i : goal.invariant-loop-i
 invariant-loop-i l =
-    (foldl (λ t k. reserving (get_or l.fixed.units.now k 0) (get_or l.fixed.froms.now k 0) (get_or l.fixed.tos.now k 0) (get_or l.fixed.uses.now k 0) t) (lain l.table.ends.now l.table.rests.now l.uses) (count l.i (l.n - l.i))
-    ≡ foldl (λ t k. reserving (get_or l.fixed.units.now k 0) (get_or l.fixed.froms.now k 0) (get_or l.fixed.tos.now k 0) (get_or l.fixed.uses.now k 0) t) (lain l.initial.table.ends.now l.initial.table.rests.now l.initial.uses) (count 0 l.n))
+    (foldl (λ t k. reserving (get_or l.fixed.units.now k 0) (get_or l.fixed.froms.now k 0) (get_or l.fixed.tos.now k 0) (get_or l.fixed.uses.now k 0) t) (lain l.table.ends.now l.table.rests.now l.uses) (count l.i (l.fixed.count - l.i))
+    ≡ foldl (λ t k. reserving (get_or l.fixed.units.now k 0) (get_or l.fixed.froms.now k 0) (get_or l.fixed.tos.now k 0) (get_or l.fixed.uses.now k 0) t) (lain l.initial.table.ends.now l.initial.table.rests.now l.initial.uses) (count 0 l.fixed.count))
     × SameTable l.initial.table l.table × (length l.uses ≡ length l.initial.uses)

@@ -23,4 +23,4 @@ returns-in_err-h-clause-loaded c =
 pub returns-clause-loaded : goal.returns-clause-loaded
 returns-clause-loaded c =
     let o = c.in_ok-h.ensures.tested.parts in
-    job_done _ _ c.requires _ _ _ _ o.0 o.1 _ (λ i. (c.type_inv.s i).fits) o.2 o.3 o.4 o.5 (omega (arith, length-replicate {A = ℕ} 512 0), omega (arith, length-replicate {A = ℕ} 512 0), omega (arith, length-replicate {A = ℕ} 512 0), omega (arith, length-replicate {A = ℕ} 512 0)) c.store_job.ensures.after (rw (c.as_list.ensures.units, c.as_list.ensures.froms, c.as_list.ensures.tos, c.as_list.ensures.uses) at c.reserve_all.ensures.after)
+    job_done _ _ c.requires _ _ _ _ o.0 o.1 _ (λ i. (c.type_inv.s i).fits) o.2 o.3 o.4 o.5 (omega (arith, length-replicate {A = ℕ} 512 0), omega (arith, length-replicate {A = ℕ} 512 0), omega (arith, length-replicate {A = ℕ} 512 0), omega (arith, length-replicate {A = ℕ} 512 0)) c.store_job.ensures.after (rw (c.as_list.ensures.units, c.as_list.ensures.froms, c.as_list.ensures.tos, c.as_list.ensures.uses, c.as_list.ensures.count) at c.reserve_all.ensures.after)

@@ -16,7 +16,7 @@ returns-then-at-s-clause-tested c = tail_out _ c.in_ok-h.ensures.read c.if-at-s.
 pub returns-in_err-whole_refusal-clause-tested : goal.returns-in_err-whole_refusal-clause-tested
 returns-in_err-whole_refusal-clause-tested c =
     let p = err_from_is_err_and c.from_residual-in_err-whole_refusal.result c.from_residual-in_err-whole_refusal.ensures.1 in
-    rw (p.1, p.2) (one_out _ (λ i. (c.type_inv.s i).fits) _ _ c.in_ok-h.ensures.read (record { j64 = omega (arith, length-replicate {A = ℕ} 64 0); j32 = omega (arith, length-replicate {A = ℕ} 1024 0); j16 = omega (arith, length-replicate {A = ℕ} 1041 0); j8 = omega (arith, length-replicate {A = ℕ} 1536 0) }) c.requires c.if-at-s.false (rw (c.as_job.ensures, c.as_list.ensures.froms, c.as_list.ensures.tos, c.as_list.ensures.uses) at c.in_err-whole_refusal.ensures))
+    rw (p.1, p.2) (one_out _ (λ i. (c.type_inv.s i).fits) _ _ c.in_ok-h.ensures.read (record { j64 = omega (arith, length-replicate {A = ℕ} 64 0); j32 = omega (arith, length-replicate {A = ℕ} 1024 0); j16 = omega (arith, length-replicate {A = ℕ} 1041 0); j8 = omega (arith, length-replicate {A = ℕ} 1536 0) }) c.requires c.if-at-s.false (rw (c.as_job.ensures, c.as_list.ensures.froms, c.as_list.ensures.tos, c.as_list.ensures.uses, c.as_list.ensures.count) at c.in_err-whole_refusal.ensures))
 
 pub returns-clause-tested : goal.returns-clause-tested
-returns-clause-tested c = none_out _ (λ i. (c.type_inv.s i).fits) _ _ c.in_ok-h.ensures.read (record { j64 = omega (arith, length-replicate {A = ℕ} 64 0); j32 = omega (arith, length-replicate {A = ℕ} 1024 0); j16 = omega (arith, length-replicate {A = ℕ} 1041 0); j8 = omega (arith, length-replicate {A = ℕ} 1536 0) }) c.requires c.if-at-s.false (rw (c.as_job.ensures, c.as_list.ensures.froms, c.as_list.ensures.tos, c.as_list.ensures.uses) at c.in_ok-whole_refusal.ensures)
+returns-clause-tested c = none_out _ (λ i. (c.type_inv.s i).fits) _ _ c.in_ok-h.ensures.read (record { j64 = omega (arith, length-replicate {A = ℕ} 64 0); j32 = omega (arith, length-replicate {A = ℕ} 1024 0); j16 = omega (arith, length-replicate {A = ℕ} 1041 0); j8 = omega (arith, length-replicate {A = ℕ} 1536 0) }) c.requires c.if-at-s.false (rw (c.as_job.ensures, c.as_list.ensures.froms, c.as_list.ensures.tos, c.as_list.ensures.uses, c.as_list.ensures.count) at c.in_ok-whole_refusal.ensures)

@@ -1,3 +1,4 @@
+-- The next report from this position is the one that was asked for. The measure is how far the walk has to go at most.
 use mathlib.Core.Path.{◌≡◌}
 use Rattle.matrix.specs.Walk.{Lent, lent_in, left, next_of}
 use Rattle.matrix.proofs.Cursor.next.Given as goal

@@ -1,3 +1,5 @@
+use native.Mathlib.Omega.{arith}
+use borrow.Author.Tests.{eqb-true, eqb-false}
 use Rattle.std.proofs.Common.{sym, ◌∙◌, refl}
 use Rattle.std.proofs.lemmas.Result.{err_from_is_err_and}
 use Rattle.table_words.proofs.RefusedNumber.{some_number}
@@ -7,14 +9,14 @@ use Rattle.pezhkadu.proofs.direct.pezhkadu_evict.Goals as goal
 pub returns-then-short_words-clause-called : goal.returns-then-short_words-clause-called
 returns-then-short_words-clause-called c = evict_words_short _ _ _ _ _ _ (sym c.short_words.ensures ∙ c.if-short_words.true)
 
-pub returns-then-answer-lt1-clause-called : goal.returns-then-answer-lt1-clause-called
-returns-then-answer-lt1-clause-called c = evict_answer_short _ _ _ _ _ _ (sym c.short_words.ensures ∙ c.if-short_words.false) c.if-answer-lt1.true
+pub returns-then-is_empty-clause-called : goal.returns-then-is_empty-clause-called
+returns-then-is_empty-clause-called c = evict_answer_short _ _ _ _ _ _ (sym c.short_words.ensures ∙ c.if-short_words.false) (let e = eqb-true _ 0 (sym c.if-is_empty.ensures) in omega (arith, e))
 
 pub returns-in_err-after-clause-called : goal.returns-in_err-after-clause-called
 returns-in_err-after-clause-called c =
     let p = err_from_is_err_and c.from_residual.result c.from_residual.ensures.1 in
-    rw (p.1, p.2) (evict_refused _ _ _ _ _ _ (sym c.short_words.ensures ∙ c.if-short_words.false) c.if-answer-lt1.false _ _ _ _ _ _ c.header_of.ensures c.cut-v.ensures (c.in_err-after.ensures.called _ c.record_at-a.ensures) (some_number _))
+    rw (p.1, p.2) (evict_refused _ _ _ _ _ _ (sym c.short_words.ensures ∙ c.if-short_words.false) (let e = eqb-false _ 0 (sym c.if-is_empty.ensures) in omega (arith, e)) _ _ _ _ _ _ c.header_of.ensures c.cut-v.ensures (c.in_err-after.ensures.called _ c.record_at-a.ensures) (some_number _))
 
 pub returns-clause-called : goal.returns-clause-called
 returns-clause-called c =
-    evict_done _ _ _ _ _ _ (sym c.short_words.ensures ∙ c.if-short_words.false) c.if-answer-lt1.false _ _ _ _ _ _ c.header_of.ensures c.cut-v.ensures (c.in_ok-after.ensures.called _ c.record_at-a.ensures) refl _ c.put_record.ensures _ c.put.ensures
+    evict_done _ _ _ _ _ _ (sym c.short_words.ensures ∙ c.if-short_words.false) (let e = eqb-false _ 0 (sym c.if-is_empty.ensures) in omega (arith, e)) _ _ _ _ _ _ c.header_of.ensures c.cut-v.ensures (c.in_ok-after.ensures.called _ c.record_at-a.ensures) refl _ c.put_record.ensures _ c.put.ensures

@@ -13,4 +13,4 @@ returns-in_err-found-clause-called c =
 
 pub returns-clause-called : goal.returns-clause-called
 returns-clause-called c =
-    load_stored _ _ _ _ _ (sym c.short_words.ensures ∙ c.if-short_words.false) _ _ _ c.in_ok-found.ensures.loaded _ _ _ _ refl c.store_header.ensures c.first_records.ensures c.store.ensures.words_after
+    load_stored _ _ _ _ _ (sym c.short_words.ensures ∙ c.if-short_words.false) _ _ _ c.in_ok-found.ensures.loaded _ _ _ _ refl c.store_header.ensures refl c.store_first_records.ensures.words_after

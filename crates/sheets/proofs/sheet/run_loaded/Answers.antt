@@ -5,7 +5,7 @@ use Rattle.sheets.proofs.BeginLaws.{run_stored}
 use Rattle.sheets.proofs.sheet.run_loaded.Goals as goal
 
 pub slice_bounds-all-end-2 : goal.slice_bounds-all-end-2
-slice_bounds-all-end-2 c = sym (length-take-le _ c.store.new.words (omega (arith, c.min-n.ensures)))
+slice_bounds-all-end-2 c = sym (length-take-le _ c.store_first_records.new.words (omega (arith, c.min-n.ensures)))
 
 pub returns-clause-stored : goal.returns-clause-stored
-returns-clause-stored c = run_stored _ _ _ _ _ _ _ _ _ _ _ _ c.first_records.ensures c.store.ensures.words_after c.store.ensures.read_back (λ l. omega (arith, c.min-n.ensures, c.store.auto.words, l)) c.run_on-end.ensures.after (c.run_on-end.auto.words ∙ length-take-le _ c.store.new.words (omega (arith, c.min-n.ensures))) refl c.start.ensures
+returns-clause-stored c = run_stored _ _ _ _ _ _ _ _ _ _ _ _ refl c.store_first_records.ensures.words_after (λ p. c.store_first_records.ensures.read_back) (λ l. omega (arith, c.min-n.ensures, c.store_first_records.auto.words, l)) c.run_on-end.ensures.after (c.run_on-end.auto.words ∙ length-take-le _ c.store_first_records.new.words (omega (arith, c.min-n.ensures))) refl c.start.ensures

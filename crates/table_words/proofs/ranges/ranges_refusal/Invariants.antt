@@ -1,3 +1,4 @@
+-- The segments from here on, with `past` the end of the one before, are refused as the whole list is.
 use Prim.Native.Nat.{◌-◌}
 use mathlib.Core.Path.{◌≡◌}
 use mathlib.Core.List.{[]}

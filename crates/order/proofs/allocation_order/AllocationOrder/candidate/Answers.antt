@@ -14,7 +14,7 @@ returns-then-place-n c =
     let h = a.hinted in
     let sized : length h.regs ≡ 65 = search rules in
     let l : h.count ≤ length h.regs = omega (arith, h.fits) in
-    ap Some (laws.listed_at h.count h.regs l _ c.args.place c.if-place-n.true)
+    ap Some (laws.hinted_at_lem h.count h.regs l _ c.args.place c.if-place-n.true)
     ∙ laws.at_hinted (hinted_by a) a.class.now c.args.place h.count (laws.listed_length h.count h.regs l) c.if-place-n.true
 
 pub returns-then-self-place : goal.returns-then-self-place
@@ -31,7 +31,7 @@ returns-then-is_hinted c =
     let h = a.hinted in
     let sized : length h.regs ≡ 65 = search rules in
     let l : h.count ≤ length h.regs = omega (arith, h.fits) in
-    laws.at_class (hinted_by a) a.class.now c.args.place h.count (laws.listed_length h.count h.regs l) true c.if-place-n.false c.if-self-place.false (sym c.is_hinted.ensures ∙ c.if-is_hinted.true)
+    laws.offer_class_lem (hinted_by a) a.class.now c.args.place h.count (laws.listed_length h.count h.regs l) true c.if-place-n.false c.if-self-place.false (sym c.is_hinted.ensures ∙ c.if-is_hinted.true)
 
 pub returns : goal.returns
 returns c =
@@ -39,4 +39,4 @@ returns c =
     let h = a.hinted in
     let sized : length h.regs ≡ 65 = search rules in
     let l : h.count ≤ length h.regs = omega (arith, h.fits) in
-    laws.at_class (hinted_by a) a.class.now c.args.place h.count (laws.listed_length h.count h.regs l) false c.if-place-n.false c.if-self-place.false (sym c.is_hinted.ensures ∙ c.if-is_hinted.false)
+    laws.offer_class_lem (hinted_by a) a.class.now c.args.place h.count (laws.listed_length h.count h.regs l) false c.if-place-n.false c.if-self-place.false (sym c.is_hinted.ensures ∙ c.if-is_hinted.false)

@@ -1,3 +1,4 @@
+-- What is left and what is still to be read go down together. Assumes nothing.
 use Prim.Native.Nat.{◌+◌, ◌≤◌}
 use mathlib.Core.Path.{◌≡◌}
 use Rattle.script_bytes.proofs.input.Input.skip.Given as goal
