@@ -1,12 +1,7 @@
-use mathlib.Core.Path.{sym, subst}
-use mathlib.Core.Bool.{Bool, not}
-use lib.Dec.{T}
+use mathlib.Core.Path.{sym}
 use Rattle.record_words.proofs.WordLaws.{bits_of_nan, bits_of_number, weight_back}
 use mathlib.Core.Path.{refl}
 use Rattle.record_words.proofs.weight_bits.Goals as goal
-
-pub float_to_bits-result : goal.float_to_bits-result
-float_to_bits-result c = subst (λ (b : Bool). T (not b)) c.if-is_nan.ensures.value tt
 
 pub returns-then-is_nan : goal.returns-then-is_nan
 returns-then-is_nan c = bits_of_nan _ (sym c.if-is_nan.ensures.value)

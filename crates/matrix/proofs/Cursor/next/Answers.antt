@@ -1,9 +1,6 @@
-use mathlib.Core.Path.{refl, sym, ◌∙◌}
+use mathlib.Core.Path.{sym, ◌∙◌}
 use Rattle.matrix.proofs.Walks.{answered, next_goes, goes_less, next_meets, next_ends}
 use Rattle.matrix.proofs.Cursor.next.Goals as goal
-
-pub loop-report-init : goal.loop-report-init
-loop-report-init g c = refl
 
 pub returns-in-Meets : goal.returns-in-Meets
 returns-in-Meets g c = answered _ _ _ (sym (next_meets _ _ _ _ (sym c.step.ensures ∙ c.in-Meets.is)) ∙ c.loop-report.invariant)

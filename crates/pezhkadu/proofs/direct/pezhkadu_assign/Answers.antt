@@ -1,11 +1,8 @@
 use Rattle.std.proofs.Common.{sym, ◌∙◌, refl}
 use Rattle.std.proofs.lemmas.Result.{err_from_is_err_and}
 use Rattle.table_words.proofs.RefusedNumber.{some_number}
-use Rattle.pezhkadu.proofs.DirectLaws.{assign_short, assign_refused, assign_done}
+use Rattle.pezhkadu.proofs.DirectLaws.{assign_refused, assign_done}
 use Rattle.pezhkadu.proofs.direct.pezhkadu_assign.Goals as goal
-
-pub returns-then-short_words-clause-called : goal.returns-then-short_words-clause-called
-returns-then-short_words-clause-called c = assign_short _ _ _ _ _ _ _ (sym c.short_words.ensures ∙ c.if-short_words.true)
 
 pub returns-in_err-after-clause-called : goal.returns-in_err-after-clause-called
 returns-in_err-after-clause-called c =

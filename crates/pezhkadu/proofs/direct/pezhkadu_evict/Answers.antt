@@ -1,16 +1,10 @@
 use native.Mathlib.Omega.{arith}
-use borrow.Author.Tests.{eqb-true, eqb-false}
+use borrow.Author.Tests.{eqb-false}
 use Rattle.std.proofs.Common.{sym, ◌∙◌, refl}
 use Rattle.std.proofs.lemmas.Result.{err_from_is_err_and}
 use Rattle.table_words.proofs.RefusedNumber.{some_number}
-use Rattle.pezhkadu.proofs.DirectLaws.{evict_words_short, evict_answer_short, evict_refused, evict_done}
+use Rattle.pezhkadu.proofs.DirectLaws.{evict_refused, evict_done}
 use Rattle.pezhkadu.proofs.direct.pezhkadu_evict.Goals as goal
-
-pub returns-then-short_words-clause-called : goal.returns-then-short_words-clause-called
-returns-then-short_words-clause-called c = evict_words_short _ _ _ _ _ _ (sym c.short_words.ensures ∙ c.if-short_words.true)
-
-pub returns-then-is_empty-clause-called : goal.returns-then-is_empty-clause-called
-returns-then-is_empty-clause-called c = evict_answer_short _ _ _ _ _ _ (sym c.short_words.ensures ∙ c.if-short_words.false) (let e = eqb-true _ 0 (sym c.if-is_empty.ensures) in omega (arith, e))
 
 pub returns-in_err-after-clause-called : goal.returns-in_err-after-clause-called
 returns-in_err-after-clause-called c =

@@ -2,14 +2,8 @@ use mathlib.Core.Path.{refl, sym, ◌∙◌}
 use lib.Seq.{length-take-le}
 use Rattle.job_parts.specs.Lent.{slices_of}
 use Rattle.run_loop.specs.Running.{state_in}
-use Rattle.pezhkadu.proofs.RunLaws.{records_short, answer_short, run_short_lem, run_done}
+use Rattle.pezhkadu.proofs.RunLaws.{run_short_lem, run_done}
 use Rattle.pezhkadu.proofs.running.pezhkadu_run.Goals as goal
-
-pub returns-then-records-lt512-clause-called : goal.returns-then-records-lt512-clause-called
-returns-then-records-lt512-clause-called c = records_short _ _ _ _ _ c.if-records-lt512.true
-
-pub returns-then-answer-lt2-clause-called : goal.returns-then-answer-lt2-clause-called
-returns-then-answer-lt2-clause-called c = answer_short _ _ _ _ _ c.if-records-lt512.false c.if-answer-lt2.true
 
 pub returns-then-short_buffers-clause-called : goal.returns-then-short_buffers-clause-called
 returns-then-short_buffers-clause-called c =

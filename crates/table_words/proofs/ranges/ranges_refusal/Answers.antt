@@ -1,11 +1,8 @@
 use borrow.Author.Rules.{rules}
 use mathlib.Core.Path.{sym, ap, ◌∙◌}
 use Rattle.reg_matrix.specs.declared.ValueSegment.{ValueSegment}
-use Rattle.table_words.proofs.RangeLaws.{ranges_start, ranges_stop, ranges_go, ranges_end}
+use Rattle.table_words.proofs.RangeLaws.{ranges_stop, ranges_go, ranges_end}
 use Rattle.table_words.proofs.ranges.ranges_refusal.Goals as goal
-
-pub loop-i-init : goal.loop-i-init
-loop-i-init g c = ranges_start _ _ _ 0
 
 pub returns-in_err-range_refusal : goal.returns-in_err-range_refusal
 returns-in_err-range_refusal g c =
