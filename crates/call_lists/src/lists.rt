@@ -146,19 +146,14 @@ fn carry_out_calls(
     ensures same { SameState state.old state.new }
     ensures done { ListDone loaded.entry.header (slices_of loaded.entry.job) list.now (state_in state.old last.old) records out.old (state_in state.new last.new) result.0 out.new result.1 }
 {
-    // taken apart here, and made anew for each call: of a struct over the loop it is not known that its slices keep their lengths
-    let ends: &mut [u64] = state.ends;
-    let rests: &mut [u64] = state.rests;
-    let queue: &mut [u64] = state.queue;
     let mut all = records;
     let (calls, _) = list.as_chunks::<4>();
     for (i, words) in calls.iter().enumerate() {
         let Some(call) = listed_by(words[0], words[1], words[2], words[3]) else {
             return (all, i as u64);
         };
-        let mut now = LentState { ends, rests, queue };
         // tried, and not covered by the check: the call's array given straight to `all`
-        let after = call.carry_out(all, loaded, &mut now, last, out, 3 * i);
+        let after = call.carry_out(all, loaded, state, last, out, 3 * i);
         all = after;
     }
     (all, calls.len() as u64)
