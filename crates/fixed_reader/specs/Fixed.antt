@@ -1,5 +1,5 @@
 -- What reading a fixed reservation promises, in the terms of the parsers of Load.antt: its tests, and what is read and stored. Assumes nothing.
-use Rattle.std.specs.Prelude.{ℕ, ◌<◌, ◌≡◌, List, Result, Ok, Err}
+use Rattle.std.specs.Prelude.{ℕ, ◌<◌, ◌≡◌, List, length, Result, Ok, Err}
 use Rattle.reg_matrix.specs.Refused.{number_of}
 use Rattle.reg_matrix.specs.declared.Entry.{Entry}
 use Rattle.reg_matrix.specs.declared.Refusal.{Refusal}
@@ -32,9 +32,13 @@ abbrev pub FixedIn : LentFixed → LentFixed → List Entry → Type 0
 FixedIn before after =
     FixedAt before.units.now before.froms.now before.tos.now before.uses.now after.units.now after.froms.now after.tos.now after.uses.now
 
--- that the same slices are lent, so that what is said of them is said of the caller's
+-- that the same slices are lent, so that what is said of them is said of the caller's, and that each is as long as it was
 pub record SameFixed (before after : LentFixed) : Type 0 where
   pub units : after.units.ghost_name ≡ before.units.ghost_name
   pub froms : after.froms.ghost_name ≡ before.froms.ghost_name
   pub tos : after.tos.ghost_name ≡ before.tos.ghost_name
   pub uses : after.uses.ghost_name ≡ before.uses.ghost_name
+  pub units_length : length after.units.now ≡ length before.units.now
+  pub froms_length : length after.froms.now ≡ length before.froms.now
+  pub tos_length : length after.tos.now ≡ length before.tos.now
+  pub uses_length : length after.uses.now ≡ length before.uses.now

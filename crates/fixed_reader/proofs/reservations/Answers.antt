@@ -10,7 +10,7 @@ use Rattle.reader.proofs.Tables.{ends_none, ends_more, after_ends}
 use Rattle.fixed_reader.proofs.reservations.Goals as goal
 
 pub loop-i-init : goal.loop-i-init
-loop-i-init c = ([], begin, ends_none, record { units = none_stored; froms = none_stored; tos = none_stored; uses = none_stored }, record { units = refl; froms = refl; tos = refl; uses = refl }, refl)
+loop-i-init c = ([], begin, ends_none, record { units = none_stored; froms = none_stored; tos = none_stored; uses = none_stored }, record { units = refl; froms = refl; tos = refl; uses = refl; units_length = refl; froms_length = refl; tos_length = refl; uses_length = refl }, refl)
 
 pub returns-in_err-e-clause-read : goal.returns-in_err-e-clause-read
 returns-in_err-e-clause-read c =
@@ -31,7 +31,16 @@ loop-i-preserved c =
         tos = more_stored v.3.tos e n c.put-in-loop-i-3.ensures;
         uses = more_stored v.3.uses e n (c.put-in-loop-i-4.ensures ∙ rw c.use_number.ensures);
       },
-      record { units = v.4.units; froms = v.4.froms; tos = v.4.tos; uses = v.4.uses },
+      record {
+        units = v.4.units;
+        froms = v.4.froms;
+        tos = v.4.tos;
+        uses = v.4.uses;
+        units_length = c.put-in-loop-i.auto.s ∙ v.4.units_length;
+        froms_length = c.put-in-loop-i-2.auto.s ∙ v.4.froms_length;
+        tos_length = c.put-in-loop-i-3.auto.s ∙ v.4.tos_length;
+        uses_length = c.put-in-loop-i-4.auto.s ∙ v.4.uses_length;
+      },
       c.reservation.ensures.same ∙ v.5,
     )
 
