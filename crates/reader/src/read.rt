@@ -1,5 +1,5 @@
 // Numbers of a job's bytes, the lowest byte first. A reader answers what it read, or why it refuses. Where it refuses, nothing is said of its
-// position, since nobody reads on.
+// position, since nobody reads on; who would, keeps a copy of the reader.
 ghost use Rattle.std.specs.Prelude.{◌≡◌, ◌^◌, ◌≤◌, ◌<◌, length, min};
 ghost use Rattle.job.specs.Load.{count_of, known as known_of};
 ghost use Rattle.job.specs.Parser.{if_bit};
@@ -28,7 +28,7 @@ pub fn bit(map: u64, i: u32) -> bool
 }
 
 // A job's bytes, and the position from which they are left to read.
-#[derive(Drop)]
+#[derive(Clone, Copy)]
 pub struct Reader<'a> {
     pub bytes: &'a [u8],
     pub at: usize,
