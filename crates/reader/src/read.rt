@@ -56,6 +56,18 @@ impl Reader<'_> {
         if stands { self.little::<N>() } else { Ok(0) }
     }
 
+    // The number of the next four bytes where its bit stands, and `absent` elsewhere.
+    pub fn word_or(&mut self, stands: bool, absent: u32) -> Result<u64, Refusal>
+        ensures same { self.new.bytes ≡ self.old.bytes }
+        ensures read { Field (left self.old) (left self.new) stands 4 absent result }
+    {
+        if stands {
+            self.little::<4>()
+        } else {
+            Ok(absent as u64)
+        }
+    }
+
     // A count of N bytes, at most `limit`, where its bit stands, and 0 elsewhere.
     #[tactic(auto, unfolding(job::specs::Load::count_of))]
     pub fn count<const N: usize>(&mut self, stands: bool, limit: u64) -> Result<u64, Refusal>

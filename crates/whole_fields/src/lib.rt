@@ -82,11 +82,7 @@ fn budget(reader: &mut Reader<'_>, stands: bool) -> Result<u64, Refusal>
     ensures same { reader.new.bytes ≡ reader.old.bytes }
     ensures read { Field (left reader.old) (left reader.new) stands 4 100000 result }
 {
-    if stands {
-        reader.little::<4>()
-    } else {
-        Ok(100_000)
-    }
+    reader.word_or(stands, 100_000)
 }
 
 // The probe range and the budget, and with them what goes by value of the job.
