@@ -1,3 +1,2 @@
-pub mod FirstSegments
 pub mod Places
 pub mod WholeTests

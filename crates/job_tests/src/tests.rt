@@ -1,10 +1,10 @@
 // The tests of a whole job, over its decoded numbers: 10, 11 and 12 (document 01). Places are compared by total reads, so that nothing is asked
 // of the slices.
-ghost use Rattle.std.specs.Prelude.{◌≡◌, ℕ, ◌+◌, ◌-◌, ◌^◌, ◌<◌, Bool, get_or, length, take, drop};
+ghost use Rattle.std.specs.Prelude.{◌≡◌, ℕ, ◌+◌, ◌-◌, ◌^◌, ◌<◌, Bool, ◌||◌, get_or};
 ghost use Rattle.reg_matrix.specs.Lists.{any, any_pair, count};
 ghost use Rattle.reg_matrix.specs.Refused.{number_in};
 ghost use Rattle.job_parts.specs.Lent.{slices_of};
-ghost use Rattle.job_tests.specs.Tests.{equal_at, member_twice, classes_differ, crosses, crosses_at, job_refusal};
+ghost use Rattle.job_tests.specs.Tests.{equal_at, member_twice, classes_differ, crosses, crosses_at, whole_number, job_refusal};
 
 use fixed_reader::FixedList;
 use job::{CLASSES, JobHeader, SETS, TOS, VALUES};
@@ -132,34 +132,50 @@ fn crosses_one(fixed: FixedList<'_>, segment: ValueSegment) -> bool
     )
 }
 
-// One of the segments crosses one of the fixed reservations.
-pub fn use_crossed(segments: Segments<'_>, fixed: FixedList<'_>) -> bool
-    ensures { result ≡ any (crosses_at segments.entry.froms.now segments.entry.tos.now segments.entry.values.now fixed.entry.froms.now fixed.entry.tos.now fixed.entry.uses.now fixed.entry.count) (count 0 (length segments.entry.froms.now)) }
+// One of the first m segments crosses one of the fixed reservations. What is read past a list's end is 0, so that m may be more than its segments.
+pub fn use_crossed(segments: Segments<'_>, m: usize, fixed: FixedList<'_>) -> bool
+    ensures { result ≡ any (crosses_at segments.entry.froms.now segments.entry.tos.now segments.entry.values.now fixed.entry.froms.now fixed.entry.tos.now fixed.entry.uses.now fixed.entry.count) (count 0 m) }
 {
     any_place(
         0,
-        segments.count(),
+        m,
         |i: usize| -> bool
             ensures { result ≡ crosses_at segments.entry.froms.now segments.entry.tos.now segments.entry.values.now fixed.entry.froms.now fixed.entry.tos.now fixed.entry.uses.now fixed.entry.count i }
         { crosses_one(fixed, segments.segment(i)) },
     )
 }
 
-// The first m segments of the decoded job, as many of them as its slices hold: those that are missing would cross nothing.
-fn first_segments(job: LentJob<'_>, m: usize) -> Segments<'_>
-    ensures froms { result.froms.now ≡ take m job.entry.j32.now }
-    ensures tos { result.tos.now ≡ drop 512 job.entry.j32.now }
-    ensures values { result.values.now ≡ drop 529 job.entry.j16.now }
+// The first of the tests 10, 11 and 12 that refuses these lists: the registers' maps of units; where each class starts and its members; each virtual
+// register's class and set; the first m segments; and the fixed reservations. How many of the others there are, the header says. Any lists will do.
+pub fn lists_refusal(
+    maps: &[u64],
+    firsts: &[u16],
+    members: &[u8],
+    classes: &[u8],
+    groups: &[u16],
+    header: JobHeader,
+    segments: Segments<'_>,
+    m: usize,
+    fixed: FixedList<'_>,
+) -> Result<(), Refusal>
+    ensures { number_in result ≡ whole_number (any_pair (equal_at maps.now) (count 0 header.regs) || any (member_twice firsts.now members.now) (count 0 header.classes)) (any_pair (classes_differ classes.now groups.now) (count 0 header.virt_regs)) (any (crosses_at segments.entry.froms.now segments.entry.tos.now segments.entry.values.now fixed.entry.froms.now fixed.entry.tos.now fixed.entry.uses.now fixed.entry.count) (count 0 m)) }
 {
-    Segments {
-        froms: job.j32.get(..m).unwrap_or(job.j32),
-        tos: from(job.j32, TOS),
-        values: from(job.j16, VALUES),
+    if same_map(maps, header.regs as usize)
+        || register_repeats(firsts, members, header.classes as usize)
+    {
+        return Err(Refusal::Twin);
     }
+    if set_differs(classes, groups, header.virt_regs as usize) {
+        return Err(Refusal::MixedSet);
+    }
+    if use_crossed(segments, m, fixed) {
+        return Err(Refusal::CutUse);
+    }
+    Ok(())
 }
 
-// The first of the tests 10, 11 and 12 that refuses the decoded job, of m segments, with its fixed reservations, which stand in slices of their own.
-// Job and header are not yet a `LoadedJob`, which is one that has passed these tests.
+// The same of the decoded job, of m segments, with its fixed reservations, which stand in slices of their own. Job and header are not yet a
+// `LoadedJob`, which is one that has passed these tests.
 #[tactic(auto, unfolding(crate::specs::Tests::job_refusal))]
 pub fn whole_refusal(
     job: LentJob<'_>,
@@ -169,19 +185,13 @@ pub fn whole_refusal(
 ) -> Result<(), Refusal>
     ensures { number_in result ≡ job_refusal (slices_of job.entry) header m fixed.entry.froms.now fixed.entry.tos.now fixed.entry.uses.now fixed.entry.count }
 {
-    let (regs, classes, virt_regs) = (header.regs, header.classes, header.virt_regs);
-    if same_map(job.j64, regs as usize) || register_repeats(job.j16, job.j8, classes as usize) {
-        return Err(Refusal::Twin);
-    }
-    if set_differs(
-        from(job.j8, CLASSES),
-        from(job.j16, SETS),
-        virt_regs as usize,
-    ) {
-        return Err(Refusal::MixedSet);
-    }
-    if use_crossed(first_segments(job, m), fixed) {
-        return Err(Refusal::CutUse);
-    }
-    Ok(())
+    let segments = Segments {
+        froms: job.j32,
+        tos: from(job.j32, TOS),
+        values: from(job.j16, VALUES),
+    };
+    let (classes, groups) = (from(job.j8, CLASSES), from(job.j16, SETS));
+    lists_refusal(
+        job.j64, job.j16, job.j8, classes, groups, header, segments, m, fixed,
+    )
 }
