@@ -7,7 +7,7 @@ use crate::hinted::HintedRegs;
 use allocator::CandidateReg;
 
 // The hinted candidates, in bit r of the marks whether register r is one of them, and the registers of the class.
-#[derive(Drop)]
+#[derive(Clone, Copy)]
 pub struct AllocationOrder<'a> {
     pub hinted: HintedRegs,
     pub marks: u64,
