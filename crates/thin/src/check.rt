@@ -1,5 +1,5 @@
 // The check asked by itself, over segment structs.
-ghost use Rattle.std.specs.Prelude.{◌≡◌, ltb, length, take};
+ghost use Rattle.std.specs.Prelude.{◌≡◌, min, ltb, length, take};
 ghost use Rattle.matrix.specs.Walk.{Answered, entered};
 ghost use Rattle.reg_matrix.specs.Refused.{numbered};
 ghost use Rattle.table_words.specs.Segments.{froms_of, tos_of, values_of};
@@ -12,16 +12,16 @@ use reg_matrix::{Interference, Refusal, ValueSegment};
 use table_words::buffers::RegMatrix;
 
 // Starts a check of a register against these segments. It tests 15, 8, 5, 6, 7 in this order, and gives the refusal or the position at the
-// start. More than MAX segments are refused with 15: a job has at most 512.
+// start. More than MAX segments are refused with 15, and whatever MAX is, more than the 512 that a job may have.
 #[tactic(auto, unfolding(crate::specs::Answers::check_answer))]
 pub fn check_interference<const MAX: usize>(
     segments: &[ValueSegment],
     query: InterferenceQuery<'_>,
     matrix: RegMatrix<'_>,
 ) -> Result<Cursor, Refusal>
-    ensures { numbered result ≡ check_answer (ltb MAX (length segments.now)) query.entry.regs.now query.entry.count query.entry.reg query.entry.full matrix.entry.table.ends.now matrix.entry.table.rests.now matrix.entry.uses.now (froms_of segments.now) (tos_of segments.now) (values_of segments.now) }
+    ensures { numbered result ≡ check_answer (ltb (min MAX max_segments) (length segments.now)) query.entry.regs.now query.entry.count query.entry.reg query.entry.full matrix.entry.table.ends.now matrix.entry.table.rests.now matrix.entry.uses.now (froms_of segments.now) (tos_of segments.now) (values_of segments.now) }
 {
-    if is_long::<MAX>(segments) {
+    if MAX.min(512) < segments.len() {
         return Err(Refusal::ShortBuffer);
     }
     check::check_interference(query, matrix, segments)
