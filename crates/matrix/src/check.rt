@@ -124,10 +124,8 @@ pub fn check_interference<S: SegmentList>(
 ) -> Result<Cursor, Refusal>
     ensures { numbered result ≡ or_refused (check_refusal (length query.entry.regs.now ∷ length matrix.entry.uses.now ∷ length matrix.entry.table.ends.now ∷ length matrix.entry.table.rests.now ∷ length (S.froms segments) ∷ length (S.tos segments) ∷ length (S.values segments) ∷ []) (take query.entry.count query.entry.regs.now) query.entry.reg (segments_in (S.froms segments) (S.tos segments) (S.values segments))) (entered matrix.entry.table.ends.now (S.froms segments) (get_or query.entry.regs.now query.entry.reg 0) query.entry.full) }
 {
-    if short_buffers(query.regs, matrix, segments) {
-        return Err(Refusal::ShortBuffer);
-    }
-    start_refusal(query.regs.len(), query.count, query.reg, segments)?;
+    let short = short_buffers(query.regs, matrix, segments);
+    start_refusal(short, query.regs.len(), query.count, query.reg, segments)?;
     let units = at(query.regs, query.reg);
     Ok(enter(matrix.table.ends, segments, units, query.full))
 }

@@ -1,5 +1,5 @@
 // The tests of a question's buffers and ranges (specs/Refusals.antt). Segments go by number, as `SegmentList` says.
-ghost use Rattle.std.specs.Prelude.{◌≡◌, [], ◌∷◌, false, length};
+ghost use Rattle.std.specs.Prelude.{◌≡◌, [], ◌∷◌, length};
 ghost use Rattle.reg_matrix.specs.Refusals.{range_refusal, ranges_refusal, short_buffer, bad_slot};
 ghost use Rattle.reg_matrix.specs.Refused.{refusal_in};
 ghost use Rattle.reg_matrix.specs.Questions.{check_limits};
@@ -15,6 +15,22 @@ pub fn short_buffers<S: SegmentList>(regs: &[u64], matrix: RegMatrix<'_>, segmen
     ensures { result ≡ short_buffer (check_limits (length (S.froms segments))) (length regs.now ∷ length matrix.entry.uses.now ∷ length matrix.entry.table.ends.now ∷ length matrix.entry.table.rests.now ∷ length (S.froms segments) ∷ length (S.tos segments) ∷ length (S.values segments) ∷ []) }
 {
     regs.len() < 64 || matrix.is_short() || segments.is_short()
+}
+
+// The same of the seven sizes alone, for a caller that has no slices of these sizes.
+#[tactic(auto, unfolding(reg_matrix::specs::Refusals::short_buffer))]
+pub fn sizes_short(
+    regs: usize,
+    uses: usize,
+    ends: usize,
+    rests: usize,
+    froms: usize,
+    tos: usize,
+    values: usize,
+) -> bool
+    ensures { result ≡ short_buffer (check_limits froms) (regs ∷ uses ∷ ends ∷ rests ∷ froms ∷ tos ∷ values ∷ []) }
+{
+    regs < 64 || uses < 512 || ends < 2560 || rests < 2560 || tos < froms || values < froms
 }
 
 fn bad_slot(point: u32) -> bool
@@ -53,17 +69,21 @@ fn ranges_refusal<S: SegmentList>(segments: S) -> Result<(), Refusal>
     Ok(())
 }
 
-// 8, 5, 6 or 7 of a check whose buffers are not short, in this order: how many maps of units are lent and how many of these count, the register's
-// number, and the segments.
+// 15, 8, 5, 6 or 7 of a check, in this order: whether a buffer is short, how many maps of units are lent and how many of these count, the
+// register's number, and the segments.
 #[tactic(auto, unfolding(crate::specs::Segments::start_refusal))]
 pub fn start_refusal<S: SegmentList>(
+    short: bool,
     regs: usize,
     count: usize,
     reg: usize,
     segments: S,
 ) -> Result<(), Refusal>
-    ensures { refusal_in result ≡ start_refusal false regs count reg (S.froms segments) (S.tos segments) }
+    ensures { refusal_in result ≡ start_refusal short regs count reg (S.froms segments) (S.tos segments) }
 {
+    if short {
+        return Err(Refusal::ShortBuffer);
+    }
     if regs <= reg || count <= reg {
         return Err(Refusal::UnknownNumber);
     }

@@ -1,19 +1,13 @@
-use mathlib.Core.Path.{refl}
 use borrow.Author.Rules.{rules}
-use Rattle.table_words.specs.Segments.{start_refusal}
 use Rattle.matrix.proofs.Starts.{refused, started}
 use Rattle.matrix.proofs.check.check_interference.Goals as goal
-
-pub returns-then-short_buffers : goal.returns-then-short_buffers
-unfolding start_refusal
-returns-then-short_buffers g c = refused _ _ _ _ _ _ _ _ _ _ c.if-short_buffers.ensures _ refl
 
 pub returns-in_err-start_refusal : goal.returns-in_err-start_refusal
 returns-in_err-start_refusal g c =
     let a = c.args in
     let S = g.S.SegmentList in
-    let q = refused (S.froms a.segments) (S.tos a.segments) (S.values a.segments) a.matrix.table.ends.now a.query.regs.now _ a.query.count a.query.reg a.query.full _ c.if-short_buffers.ensures _ c.in_err-start_refusal.ensures in
+    let q = refused (S.froms a.segments) (S.tos a.segments) (S.values a.segments) a.matrix.table.ends.now a.query.regs.now _ a.query.count a.query.reg a.query.full _ c.short_buffers-short.ensures _ c.in_err-start_refusal.ensures in
     search rules
 
 pub returns : goal.returns
-returns g c = started _ _ _ _ _ _ _ _ _ _ c.if-short_buffers.ensures _ _ c.in_ok-start_refusal.ensures c.at-units.ensures c.enter.ensures
+returns g c = started _ _ _ _ _ _ _ _ _ _ c.short_buffers-short.ensures _ _ c.in_ok-start_refusal.ensures c.at-units.ensures c.enter.ensures
