@@ -1,7 +1,7 @@
 // The tests of direct calls in their order (document 01, "Order"): 15, 8, 9, 13, 14. They read, and change nothing.
 #![tactic(auto)]
 
-ghost use Rattle.std.specs.Prelude.{◌≡◌, false, [], ◌∷◌, leb, length};
+ghost use Rattle.std.specs.Prelude.{◌≡◌, [], ◌∷◌, leb, length};
 ghost use Rattle.std.specs.Result.{IfOk};
 ghost use Rattle.reg_matrix.specs.Lists.{any, count, has};
 ghost use Rattle.reg_matrix.specs.Refusals.{refusal, short_buffer};
@@ -101,16 +101,20 @@ impl Placement {
         is_clear(units, RegMatrix { table, uses }, segments_of(self.v, job))
     }
 
-    // Why it is refused where no buffer is short: 8, 9, 13, 14. `a` is the record of v.
+    // Why it is refused: 15, 8, 9, 13, 14. It is told whether a buffer is short; `a` is the record of v.
     #[tactic(auto, unfolding(reg_matrix::specs::Refusals::refusal))]
     pub fn refusal(
         self,
+        short: bool,
         a: Assignment,
         loaded: LoadedJob<'_>,
         table: Table<'_>,
     ) -> Result<(), Refusal>
-        ensures { refusal_in result ≡ refusal (place_tests false (unknown_in loaded.entry.header.virt_regs loaded.entry.header.regs self.v self.reg (named_to (slices_of loaded.entry.job) loaded.entry.header.virt_regs self.v self.reg)) self.weight a (clear_to (slices_of loaded.entry.job) table.entry.ends.now table.entry.rests.now self.v self.reg)) }
+        ensures { refusal_in result ≡ refusal (place_tests short (unknown_in loaded.entry.header.virt_regs loaded.entry.header.regs self.v self.reg (named_to (slices_of loaded.entry.job) loaded.entry.header.virt_regs self.v self.reg)) self.weight a (clear_to (slices_of loaded.entry.job) table.entry.ends.now table.entry.rests.now self.v self.reg)) }
     {
+        if short {
+            return Err(Refusal::ShortBuffer);
+        }
         if self.is_unknown(loaded) {
             return Err(Refusal::UnknownNumber);
         }
@@ -127,12 +131,16 @@ impl Placement {
     }
 }
 
-// The register that an eviction takes from v, of n numbers, or why it is refused where no buffer is short: 8, 13. `a` is the record of v.
+// The register that an eviction takes from v, of n numbers, or why it is refused: 15, 8, 13. It is told whether a buffer is short; `a` is the record
+// of v.
 #[tactic(auto, unfolding(reg_matrix::specs::Refusals::refusal))]
-pub fn evicted_reg(a: Assignment, n: u16, v: u16) -> Result<u8, Refusal>
-    ensures refused { refusal_in result ≡ refusal (evict_tests false (leb n v) a) }
+pub fn evicted_reg(short: bool, a: Assignment, n: u16, v: u16) -> Result<u8, Refusal>
+    ensures refused { refusal_in result ≡ refusal (evict_tests short (leb n v) a) }
     ensures held { IfOk result (λ reg. reg ≡ reg_in a) }
 {
+    if short {
+        return Err(Refusal::ShortBuffer);
+    }
     if n <= v {
         return Err(Refusal::UnknownNumber);
     }

@@ -49,10 +49,8 @@ pub fn place(
 {
     let lent = &*state;
     let table = lent.as_table();
-    if short_buffers(loaded.job, table, lent.queue, last) {
-        return Err(Refusal::ShortBuffer);
-    }
-    asked.refusal(a, loaded, table)?;
+    let short = short_buffers(loaded.job, table, lent.queue, last);
+    asked.refusal(short, a, loaded, table)?;
     take(asked.v, asked.reg, loaded.job, state, last);
     Ok(placed(a, asked.reg, asked.weight))
 }
@@ -78,10 +76,8 @@ impl Eviction {
         ensures called { (rs : List Assignment) → a ≡ get_or rs self.v Dead → Evicted loaded.entry.header (slices_of loaded.entry.job) self.v (state_in state.old last.now) rs (state_in state.new last.now) (set rs self.v (afterwards a (first_in result))) (number_in result) (second_in result) }
     {
         let lent = &*state;
-        if short_buffers(loaded.job, lent.as_table(), lent.queue, last) {
-            return Err(Refusal::ShortBuffer);
-        }
-        let reg = evicted_reg(a, loaded.header.virt_regs, self.v)?;
+        let short = short_buffers(loaded.job, lent.as_table(), lent.queue, last);
+        let reg = evicted_reg(short, a, loaded.header.virt_regs, self.v)?;
         take_back(self.v, reg, loaded.job, state);
         Ok((waiting(a), reg))
     }
