@@ -13,7 +13,7 @@ const STDOUT_FILENO: i32 = 1;
 
 // Reads the next job into what is lent and prints its sheet, if there is one.
 fn replay(room: &mut [u8]) -> Option<()> {
-    let length = Input { left: 4 }.read_number::<4>()?;
+    let length = Input { left: 4 }.read_number(4)?;
     let job = room.get_mut(..length as usize)?;
     if read_full(STDIN_FILENO, job) < job.len() {
         return None;

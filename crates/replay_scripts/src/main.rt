@@ -6,7 +6,7 @@ use scripts::run_script;
 
 // Reads the next script and prints its transcript, if there is one.
 fn replay() -> Option<()> {
-    let length = Input { left: 4 }.read_number::<4>()?;
+    let length = Input { left: 4 }.read_number(4)?;
     run_script(length);
     Some(())
 }

@@ -19,14 +19,14 @@ impl Input {
         got
     }
 
-    // Reads a little-endian number of N bytes, at most 4, if it is all there; a longer one never is.
+    // Reads a little-endian number of n bytes, at most 4, if it is all there; a longer one never is.
     #[tactic(auto, using(crate::proofs::ReadLaws::number_read))]
-    pub fn read_number<const N: u64>(&mut self) -> Option<u64>
-        ensures { NumberRead N self.old.left self.new.left result }
+    pub fn read_number(&mut self, n: u64) -> Option<u64>
+        ensures { NumberRead n self.old.left self.new.left result }
     {
         let mut bytes = [0u8; 4];
-        let got = self.read_some(N, &mut bytes);
-        (got == N).then_some(u64::from(u32::from_le_bytes(bytes)))
+        let got = self.read_some(n, &mut bytes);
+        (got == n).then_some(u64::from(u32::from_le_bytes(bytes)))
     }
 
     // Reads one piece of at most n bytes and forgets it. Answers how many came.

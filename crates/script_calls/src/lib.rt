@@ -49,22 +49,22 @@ fn read_arguments(input: &mut Input, kind: u64) -> Option<Call>
 {
     match kind {
         1 => {
-            let v = input.read_number::<2>()?;
-            let reg = input.read_number::<1>()?;
-            let weight = input.read_number::<4>()?;
+            let v = input.read_number(2)?;
+            let reg = input.read_number(1)?;
+            let weight = input.read_number(4)?;
             Some(Call::Made([1, v, reg, weight]))
         }
         2 => {
-            let v = input.read_number::<2>()?;
+            let v = input.read_number(2)?;
             Some(Call::Made([2, v, 0, 0]))
         }
         3 => {
-            let budget = input.read_number::<4>()?;
+            let budget = input.read_number(4)?;
             Some(Call::Made([3, budget, 0, 0]))
         }
         4 | 5 => {
-            let reg = input.read_number::<1>()?;
-            let segments = input.read_number::<1>()?;
+            let reg = input.read_number(1)?;
+            let segments = input.read_number(1)?;
             let full = kind == 5;
             Some(Call::Asked(Question::Check {
                 reg,
@@ -73,9 +73,9 @@ fn read_arguments(input: &mut Input, kind: u64) -> Option<Call>
             }))
         }
         6 => {
-            let unit = input.read_number::<1>()?;
-            let from = input.read_number::<4>()?;
-            let to = input.read_number::<4>()?;
+            let unit = input.read_number(1)?;
+            let from = input.read_number(4)?;
+            let to = input.read_number(4)?;
             Some(Call::Asked(Question::IsUnitFree { unit, from, to }))
         }
         _ => None,
@@ -86,7 +86,7 @@ fn read_arguments(input: &mut Input, kind: u64) -> Option<Call>
 fn read_call(input: &mut Input) -> Result<Option<Call>, Bad>
     ensures { CallTook input.old.left input.new.left result }
 {
-    let Some(kind) = input.read_number::<1>() else {
+    let Some(kind) = input.read_number(1) else {
         return Ok(None);
     };
     let call = read_arguments(input, kind).ok_or(Bad)?;

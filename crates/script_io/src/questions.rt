@@ -21,9 +21,9 @@ use unit_free::is_unit_free;
 fn read_segment(input: &mut Input) -> Option<ValueSegment>
     ensures { Took 10 input.old.left input.new.left (is_some result) }
 {
-    let from = input.read_number::<4>()?;
-    let to = input.read_number::<4>()?;
-    let value = input.read_number::<2>()?;
+    let from = input.read_number(4)?;
+    let to = input.read_number(4)?;
+    let value = input.read_number(2)?;
     Some(ValueSegment {
         from: u32::cut(from),
         to: u32::cut(to),

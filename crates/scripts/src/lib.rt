@@ -28,7 +28,7 @@ fn print_script(input: &mut Input, line: &mut [u8]) -> Result<(), Bad>
     ensures { input.new.left ≤ input.old.left }
 {
     let mut bytes = [0u8; 32769];
-    let size = input.read_number::<4>().ok_or(Bad)?;
+    let size = input.read_number(4).ok_or(Bad)?;
     let job = read_job(input, size, &mut bytes).ok_or(Bad)?;
     run_job(job, input, line)
 }
