@@ -95,8 +95,8 @@ fn read_call(input: &mut Input) -> Result<Option<Call>, Bad>
 
 // The records of the first n virtual registers.
 fn print_records(records: [Assignment; 512], n: u16, line: &mut [u8]) {
-    for (v, record) in (0..n).zip(records) {
-        let length = states::record_line(line, v, record);
+    for (v, record) in (0..n).zip(&records) {
+        let length = states::record_line(line, v, *record);
         print(line, length);
     }
 }
