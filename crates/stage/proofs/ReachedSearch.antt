@@ -1,6 +1,6 @@
 -- A dequeue's searches on a state that calls reach: what the code finds clear, best to evict from or preferred is what the rules find, and whom it
 -- would evict are the rule's evictees. Assumes nothing.
-use Prim.Native.Nat.{ℕ, ◌+◌, ◌-◌, ◌<◌}
+use Prim.Native.Nat.{ℕ, ◌+◌, ◌-◌, ◌≤◌, ◌<◌}
 use native.Mathlib.Omega.{arith}
 use mathlib.Core.Path.{◌≡◌, refl, sym, ap, ◌∙◌, subst}
 use mathlib.Core.List.Memᴰ
@@ -17,7 +17,7 @@ use Rattle.reg_matrix.specs.Check.{check}
 use Rattle.reg_matrix.specs.declared.Interference.{Interference}
 use Rattle.reg_matrix.specs.declared.InterferenceKind.{InterferenceKind}
 use Rattle.reg_matrix.specs.declared.InterferenceKind.TheVariants.{Fixed, VirtReg}
-use Rattle.reg_matrix.proofs.Members.{◌∈◌, filter_none, concat_out, count_out}
+use Rattle.reg_matrix.proofs.Members.{◌∈◌, filter_none, concat_out, count_out, get_d_in}
 use Rattle.reg_matrix.proofs.Places.{padded_read, from_zero, filter_append, count_append}
 use Rattle.reg_matrix.proofs.Laws.{report_cell}
 use Rattle.matrix.specs.Walk.{Lent}
@@ -38,7 +38,7 @@ use Rattle.allocator.specs.Dequeue.{Decision, leaves, evictees_of, none_clear, b
 use Rattle.allocator.proofs.Holders.{cell_out}
 use Rattle.allocator.proofs.Agrees.{last_named}
 use Rattle.allocator.proofs.Decisions.{Candidates, candidates_out, hinted_good, order_good, has_out}
-use Rattle.allocator.proofs.Capacity.{held_plain, spill_plain}
+use Rattle.allocator.proofs.Capacity.{hinted_length, held_plain, spill_plain}
 use Rattle.allocator.proofs.Rebuilt.{named_known}
 use Rattle.allocator.proofs.Good.{Good}
 use Rattle.allocator.proofs.Records.{held_record}
@@ -76,6 +76,14 @@ module _ (j : Job) (s : State) (g : Good j s) (v : ℕ) (b : IsNumber j v) where
 
   pub order_small : SmallRegs (order j v own_hinted)
   order_small = small_regs (order j v own_hinted) (order_good j g.premises v b own_hinted hinted_are)
+
+  -- at most 65 hinted ones, and with the class 129
+  pub hinted_few : length own_hinted ≤ 65
+  hinted_few = omega (arith, hinted_length (virt_reg j v) (last_given j s v), g.premises.few_own_hints v b)
+
+  pub candidates_few : length own_hinted + length (class_of j v) ≤ 129
+  candidates_few =
+      omega (arith, hinted_few, g.premises.small_classes (class_of j v) (get_d_in j.classes (virt_reg j v).class [] (g.premises.a_class v b)))
 
 -- ---- what else is lent to a search
 
