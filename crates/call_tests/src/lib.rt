@@ -40,8 +40,8 @@ fn has_reg(regs: &[u8], reg: u8) -> bool
 fn hint_names(k: u16, set: u16, reg: u8, sets: &[u16], starts: &[u16], hints: &[u8]) -> bool
     ensures { result ≡ hinted_at sets.now starts.now hints.now set reg k }
 {
-    let own = part_of(starts, k, hints);
-    at(sets, k as usize) == set && has_reg(own, reg)
+    // the set first: of most numbers it is another one, and then no part is looked up
+    at(sets, k as usize) == set && has_reg(part_of(starts, k, hints), reg)
 }
 
 // Whether a hint of a member of the set, of n numbers, names the register.
