@@ -1,4 +1,5 @@
-// Calls over a lent slice of segment structs: placing and evicting take at most 512, a check as many as its caller says, as segment_lists does.
+// Calls over a lent slice of segment structs: placing, evicting and a check take at most 512, and a check no more than its caller says, as
+// segment_lists does.
 #![tactic(auto)]
 
 ghost use Rattle.std.specs.Prelude.{◌≡◌, ltb, length};
