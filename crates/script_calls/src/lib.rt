@@ -94,8 +94,8 @@ fn read_call(input: &mut Input) -> Result<Option<Call>, Bad>
 }
 
 // The records of the first n virtual registers.
-fn print_records(records: [Assignment; 512], n: u16, line: &mut [u8]) {
-    for (v, record) in (0..n).zip(&records) {
+fn print_records(records: &[Assignment; 512], n: u16, line: &mut [u8]) {
+    for (v, record) in (0..n).zip(records) {
         let length = states::record_line(line, v, *record);
         print(line, length);
     }
@@ -117,7 +117,7 @@ fn print_entries(loaded: LoadedJob<'_>, table: Table<'_>, line: &mut [u8]) {
 
 // The whole state: records, queue, last registers, entries.
 fn print_state(
-    records: [Assignment; 512],
+    records: &[Assignment; 512],
     loaded: LoadedJob<'_>,
     state: &LentState<'_>,
     last: &[u8],
@@ -149,12 +149,10 @@ fn make(
     let Ok(made) = done else {
         return records;
     };
-    // tried, and not covered by the check: the array taken straight from the pattern
-    let after = made.0;
     let length = answer_line(line, numbers[0], numbers[1], numbers[2]);
     print(line, length);
-    print_state(after, loaded, state, last, line);
-    after
+    print_state(&made.0, loaded, state, last, line);
+    made.0
 }
 
 impl Question {
