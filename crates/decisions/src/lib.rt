@@ -21,6 +21,7 @@ use job_parts::{class_of, part_of, segments_of};
 use lent::{at, from};
 use order::Hints;
 use order::allocation_order::AllocationOrder;
+use order::hinted::HintedRegs;
 use record_words::record_of;
 use records::assignment::flag_of;
 use stage::allocate::{
@@ -114,7 +115,7 @@ impl Dequeued<'_> {
         if !self.wants_preferred(c) {
             return Decided::Takes(c);
         }
-        match try_evict_for_preferred_reg(c, &self.order.hinted, &self.search) {
+        match try_evict_for_preferred_reg(c, self.order.hinted, &self.search) {
             Some(best) => evicts(best, true),
             None => Decided::Takes(c),
         }
@@ -159,7 +160,8 @@ pub fn decide(
 {
     let i = v as usize;
     let last_reg = last_given(last, from(job.j16, SETS), v);
-    let order = AllocationOrder::new(class_of(v, job), hints_of(v, job), last_reg);
+    let hinted = HintedRegs::new(hints_of(v, job), last_reg);
+    let order = AllocationOrder::new(class_of(v, job), &hinted);
     let d = Dequeued {
         stage,
         flag: flag_of(record_of(at(words, i))),

@@ -1,35 +1,32 @@
 // The order of a virtual register's candidates.
-ghost use Rattle.std.specs.Prelude.{take};
 ghost use Rattle.order.specs.Marks.{Marked};
 
-use crate::Hints;
-use crate::hinted::HintedRegs;
+use crate::hinted::{HintedRegs, is_in};
 use allocator::CandidateReg;
 
 // The hinted candidates, in bit r of the marks whether register r is one of them, and the registers of the class.
 #[derive(Clone, Copy)]
 pub struct AllocationOrder<'a> {
-    pub hinted: HintedRegs,
+    pub hinted: &'a [CandidateReg],
     pub marks: u64,
     pub class: &'a [u8],
-    pub ghost marked: { Marked marks (take hinted.count hinted.regs) },
+    pub ghost marked: { Marked marks hinted.now },
 }
 
 impl<'a> AllocationOrder<'a> {
     ghost use Rattle.std.specs.Prelude.{◌≡◌, ◌+◌, length};
     ghost use Rattle.allocator.specs.Order.{has_reg, highest_preference};
-    ghost use Rattle.order.specs.OrderWalk.{hints_of, last_of, hinted_of, offer_at};
+    ghost use Rattle.order.specs.OrderWalk.{offer_at};
     ghost use Rattle.order.specs.Hinted.{listed, hinted_by};
 
-    // The hinted candidates of a virtual register with these hints, of which 64 count, where a register was last given to its set; then the class.
-    pub fn new(class: &'a [u8], hints: Hints<'_>, last: Option<u8>) -> AllocationOrder<'a>
-        ensures hinted { hinted_by result ≡ hinted_of (hints_of hints.entry.regs.now hints.entry.weights.now) (last_of last) }
+    // The hinted candidates; then the class.
+    pub fn new(class: &'a [u8], hinted: &'a HintedRegs) -> AllocationOrder<'a>
+        ensures hinted { hinted_by result ≡ listed hinted.now }
         ensures class { result.class.now ≡ class.now }
     {
-        let hinted = HintedRegs::new(hints, last);
         AllocationOrder {
             marks: hinted.marks(),
-            hinted,
+            hinted: hinted.as_slice(),
             class,
         }
     }
@@ -38,7 +35,7 @@ impl<'a> AllocationOrder<'a> {
     pub fn len(&self) -> usize
         ensures { result ≡ length (hinted_by self.now) + length self.now.class.now }
     {
-        self.hinted.count + self.class.len()
+        self.hinted.len() + self.class.len()
     }
 
     fn is_hinted(&self, reg: u8) -> bool
@@ -47,7 +44,7 @@ impl<'a> AllocationOrder<'a> {
         if reg < 64 {
             return (self.marks >> reg) % 2 == 1;
         }
-        self.hinted.has_reg(reg)
+        is_in(self.hinted, reg)
     }
 
     // The candidate at a place: the hinted ones, then the class with weight 0. There is none where a register of the class was hinted, and none past
@@ -56,9 +53,9 @@ impl<'a> AllocationOrder<'a> {
     pub fn candidate(&self, place: usize) -> Option<CandidateReg>
         ensures { result ≡ offer_at (hinted_by self.now) self.now.class.now place }
     {
-        let n = self.hinted.count;
+        let n = self.hinted.len();
         if place < n {
-            return Some(self.hinted.regs[place]);
+            return Some(self.hinted[place]);
         }
         if self.class.len() <= place - n {
             return None;
@@ -77,9 +74,6 @@ impl<'a> AllocationOrder<'a> {
     pub fn highest_preference(&self) -> f32
         ensures { result ≡ highest_preference (hinted_by self.now) }
     {
-        self.hinted
-            .as_slice()
-            .first()
-            .map_or(0.0, |c| c.preference_weight)
+        self.hinted.first().map_or(0.0, |c| c.preference_weight)
     }
 }

@@ -3,7 +3,7 @@
 ghost use Rattle.std.specs.Prelude.{◌≡◌, None, false};
 ghost use Rattle.reg_matrix.specs.Lists.{is_nil};
 ghost use Rattle.matrix.specs.Walk.{lent_in};
-ghost use Rattle.order.specs.Hinted.{listed, offers};
+ghost use Rattle.order.specs.Hinted.{offers};
 ghost use Rattle.record_words.specs.Words.{held_in};
 ghost use Rattle.stage.specs.Searching.{lent_for};
 ghost use Rattle.stage.specs.AllocateWalk.{reports_on, none_of, available_in, cost_so_far, taking, by_cost, evict_in, prefers, prefer_in};
@@ -14,7 +14,6 @@ use allocator::{CandidateReg, EvictCost};
 use lent::at;
 use matrix::check::enter;
 use order::allocation_order::AllocationOrder;
-use order::hinted::HintedRegs;
 use table_words::buffers::RegMatrix;
 use table_words::segments::Segments;
 
@@ -143,12 +142,12 @@ fn is_preferred(clear: CandidateReg, c: CandidateReg, t: &Tried) -> bool
 // The first hinted candidate that is preferred to the clear one, with its holders.
 pub fn try_evict_for_preferred_reg(
     clear: CandidateReg,
-    hinted: &HintedRegs,
+    hinted: &[CandidateReg],
     search: &Search<'_>,
 ) -> Option<Best>
-    ensures { result ≡ prefer_in (lent_for search.now) search.now.maps.now (held_in search.now.words.now) search.now.spills.now clear (listed hinted.now) }
+    ensures { result ≡ prefer_in (lent_for search.now) search.now.maps.now (held_in search.now.words.now) search.now.spills.now clear hinted.now }
 {
-    for c in hinted.as_slice() {
+    for c in hinted {
         let units = at(search.maps, c.reg as usize);
         let limit = Limit::ByWeight(c.preference_weight);
         let Some(t) = limit.try_reports(units, search) else {

@@ -6,34 +6,34 @@ use Rattle.stage.proofs.allocate.try_evict_for_preferred_reg.Goals as goal
 
 pub loop-c-preserved-in_default : goal.loop-c-preserved-in_default
 loop-c-preserved-in_default c =
-    let hs = c.as_slice-c-items.result.now in
+    let hs = c.args.hinted.now in
     let l = c.loop-c in
-    rw (← c.as_slice-c-items.ensures) (
+    (
     prefer_out _ _ _ _ _ hs l.c-index c.loop-c-test.true _ (get_or_default hs l.c-index _ _ c.loop-c-test.true) _
     (tried_is _ _ _ _ _ _ _ _ _ refl c.at-units.ensures c.try_reports.ensures) c.in_default.is
-    ∙ rw (← c.as_slice-c-items.ensures) at l.invariant
+    ∙ l.invariant
     )
 
 pub returns-then-is_preferred : goal.returns-then-is_preferred
 returns-then-is_preferred c =
-    let hs = c.as_slice-c-items.result.now in
+    let hs = c.args.hinted.now in
     let l = c.loop-c in
-    rw (← c.as_slice-c-items.ensures) (
+    (
     ap Some c.found.ensures ∙ prefer_yes _ _ _ _ _ hs l.c-index c.loop-c-test.true _ (get_or_default hs l.c-index _ _ c.loop-c-test.true) _
     (tried_is _ _ _ _ _ _ _ _ _ refl c.at-units.ensures c.try_reports.ensures) _ c.in-Some.is (sym c.is_preferred.ensures ∙ c.if-is_preferred.true)
-    ∙ rw (← c.as_slice-c-items.ensures) at l.invariant
+    ∙ l.invariant
     )
 
 pub loop-c-preserved : goal.loop-c-preserved
 loop-c-preserved c =
-    let hs = c.as_slice-c-items.result.now in
+    let hs = c.args.hinted.now in
     let l = c.loop-c in
-    rw (← c.as_slice-c-items.ensures) (
+    (
     prefer_no _ _ _ _ _ hs l.c-index c.loop-c-test.true _ (get_or_default hs l.c-index _ _ c.loop-c-test.true) _
     (tried_is _ _ _ _ _ _ _ _ _ refl c.at-units.ensures c.try_reports.ensures) _ c.in-Some.is (sym c.is_preferred.ensures ∙ c.if-is_preferred.false)
-    ∙ rw (← c.as_slice-c-items.ensures) at l.invariant
+    ∙ l.invariant
     )
 
 pub returns : goal.returns
 returns c =
-    rw (← c.as_slice-c-items.ensures) (prefer_end _ _ _ _ _ c.as_slice-c-items.result.now c.loop-c.c-index c.loop-c-test.false ∙ rw (← c.as_slice-c-items.ensures) at c.loop-c.invariant)
+    prefer_end _ _ _ _ _ c.args.hinted.now c.loop-c.c-index c.loop-c-test.false ∙ c.loop-c.invariant
