@@ -21,7 +21,7 @@ pub fn assign(
     ensures same { SameTable table.old table.new }
     ensures answer { AssignAnswer (ltb max_segments (length range.entry.segments.now)) range.entry.v range.entry.units uses.now (froms_of range.entry.segments.now) (tos_of range.entry.segments.now) (words_of table.old) (words_of table.new) result }
 {
-    if is_long::<512>(range.segments) {
+    if is_long(range.segments) {
         return Err(Refusal::ShortBuffer);
     }
     range.assign(table, uses)
@@ -37,7 +37,7 @@ pub fn evict(
     ensures same { SameTable table.old table.new }
     ensures answer { EvictAnswer (ltb max_segments (length range.entry.segments.now)) range.entry.v range.entry.units uses.now (tos_of range.entry.segments.now) (words_of table.old) (words_of table.new) result }
 {
-    if is_long::<512>(range.segments) {
+    if is_long(range.segments) {
         return Err(Refusal::ShortBuffer);
     }
     range.evict(table, uses)

@@ -39,7 +39,7 @@ pub fn enter(segments: &[ValueSegment], ends: &[u64], units: u64, full: bool) ->
 fn seen(segments: &[ValueSegment]) -> &[ValueSegment]
     ensures { result.now ≡ take max_segments segments.now }
 {
-    if is_long::<512>(segments) {
+    if is_long(segments) {
         &segments[..512]
     } else {
         segments

@@ -3,15 +3,16 @@
 #![tactic(auto)]
 
 ghost use Rattle.std.specs.Prelude.{◌≡◌, ltb, length};
+ghost use Rattle.thin.specs.Answers.{max_segments};
 
 use reg_matrix::ValueSegment;
 
 pub mod assign;
 pub mod check;
 
-// Whether there are more than MAX segments.
-fn is_long<const MAX: usize>(segments: &[ValueSegment]) -> bool
-    ensures { result ≡ ltb MAX (length segments.now) }
+// Whether there are more segments than a job may have.
+fn is_long(segments: &[ValueSegment]) -> bool
+    ensures { result ≡ ltb max_segments (length segments.now) }
 {
-    MAX < segments.len()
+    512 < segments.len()
 }
