@@ -41,26 +41,33 @@ fn read_segments(input: &mut Input, list: &mut [ValueSegment]) -> Option<()>
     Some(())
 }
 
-// Prints the reports on these segments from this position on.
-fn print_reports(list: &[ValueSegment], start: Cursor, matrix: RegMatrix<'_>, line: &mut [u8]) {
+// Prints the reports on the first n of these segments from this position on.
+fn print_reports(
+    list: &[ValueSegment],
+    n: usize,
+    start: Cursor,
+    matrix: RegMatrix<'_>,
+    line: &mut [u8],
+) {
     let mut here = start;
     // a `for` is no plainer: an `Iterator` over the reports owes laws of its own (`can_next`, `next_gives`, `remaining`), where the
     // promise of `next` on one report and the position after it is enough
-    while let Some((report, after)) = next_in_list(list, here, matrix) {
+    while let Some((report, after)) = next_in_list(list, n, here, matrix) {
         let length = answers::report_line(line, report);
         print(line, length);
         here = after;
     }
 }
 
-// A check of the segments on a register.
+// A check of the first n of these segments on a register.
 fn check(
     list: &[ValueSegment],
+    n: usize,
     query: InterferenceQuery<'_>,
     matrix: RegMatrix<'_>,
     line: &mut [u8],
 ) {
-    match check_list(list, query, matrix) {
+    match check_list(list, n, query, matrix) {
         Err(refusal) => {
             let length = result_lines::refused_line(line, refusal.number());
             print(line, length);
@@ -68,7 +75,7 @@ fn check(
         Ok(c) => {
             let length = answers::check_line(line);
             print(line, length);
-            print_reports(list, c, matrix, line);
+            print_reports(list, n, c, matrix, line);
         }
     }
 }
@@ -84,9 +91,9 @@ pub fn ask_check(
     ensures { Took (10 * cut 255 segments) input.old.left input.new.left (is_some result) }
 {
     let mut room = [ValueSegment::default(); 255];
-    let list = &mut room[..u8::cut(segments) as usize];
-    read_segments(input, list)?;
-    check(list, query, matrix, line);
+    let n = u8::cut(segments) as usize;
+    read_segments(input, &mut room[..n])?;
+    check(&room, n, query, matrix, line);
     Some(())
 }
 
