@@ -53,16 +53,23 @@ pub fn answer_line(line: &mut [u8], refusal: u64, word: u64, value: u64) -> usiz
     end_line(line, ending_of(word), value)
 }
 
-// `spare`, `busy` or `refused N`.
+// `spare`, `busy` or `refused N`, of a refusal by any number.
 #[tactic(auto, unfolding(reg_matrix::specs::Lists::ascii, crate::specs::Answers::spared_text))]
-pub fn unit_free_line(line: &mut [u8], answer: Result<bool, Refusal>) -> usize
-    ensures { Stored line.old 0 (spared_text (numbered answer)) line.new result }
+pub fn spared_line(line: &mut [u8], answer: Result<bool, u8>) -> usize
+    ensures { Stored line.old 0 (spared_text answer) line.new result }
 {
     match answer {
         Ok(true) => whole(line, b"spare\n"),
         Ok(false) => whole(line, b"busy\n"),
-        Err(r) => refused_line(line, r.number()),
+        Err(n) => refused_line(line, n as u64),
     }
+}
+
+// What `is_unit_free` answers.
+pub fn unit_free_line(line: &mut [u8], answer: Result<bool, Refusal>) -> usize
+    ensures { Stored line.old 0 (spared_text (numbered answer)) line.new result }
+{
+    spared_line(line, answer.map_err(|r| r.number() as u8))
 }
 
 // Who stands in the way.
