@@ -122,9 +122,7 @@ impl ListedCall {
             Ok(done) => {
                 let (word, value) = done.1.numbers();
                 store_numbers(out, to, 0, word, value);
-                // tried, and not covered by the check: the array given back straight from the pattern
-                let after = done.0;
-                after
+                done.0
             }
             Err(refusal) => {
                 store_numbers(out, to, refusal.number(), 0, 0);
